@@ -75,7 +75,7 @@ impl<'f, K, V, W, X, F: Fn(&K, &V, Option<&W>) -> Result<Option<X>, AllocError>>
 }
 
 /// Asks with one lifetime for all references, since a side without a value has no reference to take
-/// it from.
+/// it from. `X` is all that the closure answers.
 fn ask_left<'a, K, V, W, X, F: Fn(&K, &V, Option<&W>) -> X>(
     f: &F,
     key: &'a K,
@@ -109,7 +109,7 @@ impl<'f, K, V, W, X, F: Fn(&K, Option<&V>, &W) -> Result<Option<X>, AllocError>>
 }
 
 /// Asks with one lifetime for all references, since a side without a value has no reference to take
-/// it from.
+/// it from. `X` is all that the closure answers.
 fn ask_right<'a, K, V, W, X, F: Fn(&K, Option<&V>, &W) -> X>(
     f: &F,
     key: &'a K,

@@ -80,7 +80,9 @@ impl<K: Drop, X: Drop, A: Allocator + Copy> PairList for Vec<(K, X), A> {
 pub struct FreshState<'a, 'b, 's, K, V, W, S> {
     a: &'a [(K, V)],
     b: &'b [(K, W)],
+    /// The place of the next pair of `a`.
     left: usize,
+    /// The place of the next pair of `b`.
     right: usize,
     built: &'s mut S,
 }

@@ -6,11 +6,13 @@ use Rattle.std.specs.declared.cmp.Ordering.{Ordering}
 use Rattle.vc_sets.specs.SetOf.{IsSetOf, and_not}
 use Rattle.vc_sets.specs.Select.{keeps}
 
+-- `L` and `R` relate what is kept to the left and to the right element that it is kept of
 module _ {X : Type 0} (f g : Bool → Bool → Bool) (same : (x y : Bool) → f x y ≡ g x y) (L R : X → X → Type 0) where
   -- operations that say the same
   set_of-same : (cmp : X → X → Ordering) (a b c : List X) → IsSetOf cmp L R f a b c → IsSetOf cmp L R g a b c
   set_of-same cmp a b c s = grind arith
 
+-- `keeps` of an intersection, and of a difference
 keeps-and : (x y : Bool) → keeps (not true) false true x y ≡ (x && y)
 keeps-and x y = grind arith
 

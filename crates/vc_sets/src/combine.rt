@@ -15,9 +15,9 @@ use std::default::MadeWith;
 use vc_merge::choosing::ChoosingState;
 use vc_merge::merge::{Count, merge};
 
-/// The elements that only one of the lists has and, if `BOTH`, the left one of each two equal ones.
+/// The elements that only one list has and, if `SHARED`, the left one of each two equal ones.
 fn combine_either<
-    const BOTH: bool,
+    const SHARED: bool,
     T: Ord + Clone + MadeWith<A>,
     C: Count,
     const N: usize,
@@ -27,21 +27,21 @@ fn combine_either<
     requires b_ascends { Ascends T.cmp b.now }
     requires clones { ClonesAreEqual T.cmp T.is_clone }
     ensures combined { IfOk result
-        (λ v. IsSetOf T.cmp T.is_clone T.is_clone (keeps true true BOTH) a.now b.now v.items) }
+        (λ v. IsSetOf T.cmp T.is_clone T.is_clone (keeps true true SHARED) a.now b.now v.items) }
     ensures counted { C.counted steps.new
         ≤ C.counted steps.old + bound (length a.now) (length b.now) }
 {
     let mut built = with_room_for_both(alloc, a.len(), b.len())?;
     let mut state = ChoosingState::new(a, b, &mut built);
-    merge(&mut state, &EitherOp::<BOTH>, steps)?;
+    merge(&mut state, &EitherOp::<SHARED>, steps)?;
     Ok(built)
 }
 
-/// The elements that only the left list has or, if `BOTH`, the left one of each two equal ones.
+/// The elements that only the left list has or, if `SHARED`, the left one of each two equal ones.
 /// There are at least as many as the left list has more than the right one: room for these is
 /// reserved at the start.
 fn combine_left<
-    const BOTH: bool,
+    const SHARED: bool,
     T: Ord + Clone + MadeWith<A>,
     C: Count,
     const N: usize,
@@ -51,11 +51,11 @@ fn combine_left<
     requires b_ascends { Ascends T.cmp b.now }
     requires clones { ClonesAreEqual T.cmp T.is_clone }
     ensures combined { IfOk result (λ v.
-        IsSetOf T.cmp T.is_clone T.is_clone (keeps (not BOTH) false BOTH) a.now b.now v.items) }
+        IsSetOf T.cmp T.is_clone T.is_clone (keeps (not SHARED) false SHARED) a.now b.now v.items) }
     ensures counted { C.counted steps.new
         ≤ C.counted steps.old + bound (length a.now) (length b.now) }
 {
-    let least = if BOTH {
+    let least = if SHARED {
         0
     } else {
         a.len().saturating_sub(b.len())
@@ -63,7 +63,7 @@ fn combine_left<
     let mut built = SmallVec::new(alloc);
     built.reserve(least)?;
     let mut state = ChoosingState::new(a, b, &mut built);
-    merge(&mut state, &LeftOp::<BOTH>, steps)?;
+    merge(&mut state, &LeftOp::<SHARED>, steps)?;
     Ok(built)
 }
 

@@ -8,16 +8,16 @@ use std::alloc::AllocError;
 use std::cmp::Ordering;
 use vc_merge::merge::{Count, MergeFromRight, MergeOperation, MergeStateMut};
 
-/// Keeps what is only on one side, and what is on both if `BOTH`: the union, or the symmetric
-/// difference.
-pub struct EitherOp<const BOTH: bool>;
+/// Keeps the elements that only one side has and, if `SHARED`, the left one of each two equal
+/// ones: the union if `SHARED`, and the symmetric difference otherwise.
+pub struct EitherOp<const SHARED: bool>;
 
-/// Keeps what is only on the left or, if `BOTH`, what is on both: the difference, or the
-/// intersection.
-pub struct LeftOp<const BOTH: bool>;
+/// Keeps the left one of each two equal elements if `SHARED`, and the elements that only the
+/// left side has otherwise: the intersection if `SHARED`, and the difference otherwise.
+pub struct LeftOp<const SHARED: bool>;
 
-impl<const BOTH: bool, T: Ord, M: MergeFromRight<A = T, B = T>, C: Count> MergeOperation<M, C>
-    for EitherOp<BOTH> {
+impl<const SHARED: bool, T: Ord, M: MergeFromRight<A = T, B = T>, C: Count> MergeOperation<M, C>
+    for EitherOp<SHARED> {
     ghost order = { λ _. both_sides T.cmp };
 
     ghost ready = { λ _ s. M.ready s };
@@ -26,7 +26,7 @@ impl<const BOTH: bool, T: Ord, M: MergeFromRight<A = T, B = T>, C: Count> MergeO
       from_a = λ s n answer t. M.advances_a s n true answer t;
       from_b = λ s n answer t. M.takes_b s n answer t;
       collision = λ s answer t.
-          Both (λ p r q. M.advances_a p 1 BOTH r q) (λ p r q. M.skips_b p 1 r q) s answer t;
+          Both (λ p r q. M.advances_a p 1 SHARED r q) (λ p r q. M.skips_b p 1 r q) s answer t;
     } };
 
     ghost total = { λ _. both_sides-total T.cmp T.total };
@@ -48,12 +48,12 @@ impl<const BOTH: bool, T: Ord, M: MergeFromRight<A = T, B = T>, C: Count> MergeO
 
     #[inline(always)]
     fn collision(&self, state: &mut M) -> Result<bool, AllocError> {
-        keep_left::<BOTH, _>(state)
+        pass_shared::<SHARED, _>(state)
     }
 
     #[inline(always)]
     fn event(&self, state: &mut M, heads: Ordering) -> Result<bool, AllocError> {
-        state.take_lesser(heads, BOTH)
+        state.take_lesser(heads, SHARED)
     }
 
     #[inline(always)]
@@ -62,17 +62,17 @@ impl<const BOTH: bool, T: Ord, M: MergeFromRight<A = T, B = T>, C: Count> MergeO
     }
 }
 
-impl<const BOTH: bool, T: Ord, M: MergeStateMut<A = T, B = T>, C: Count> MergeOperation<M, C>
-    for LeftOp<BOTH> {
+impl<const SHARED: bool, T: Ord, M: MergeStateMut<A = T, B = T>, C: Count> MergeOperation<M, C>
+    for LeftOp<SHARED> {
     ghost order = { λ _. both_sides T.cmp };
 
     ghost ready = { λ _ s. M.ready s };
 
     ghost gives = { λ _. record {
-      from_a = λ s n answer t. M.advances_a s n (not BOTH) answer t;
+      from_a = λ s n answer t. M.advances_a s n (not SHARED) answer t;
       from_b = λ s n answer t. M.skips_b s n answer t;
       collision = λ s answer t.
-          Both (λ p r q. M.advances_a p 1 BOTH r q) (λ p r q. M.skips_b p 1 r q) s answer t;
+          Both (λ p r q. M.advances_a p 1 SHARED r q) (λ p r q. M.skips_b p 1 r q) s answer t;
     } };
 
     ghost total = { λ _. both_sides-total T.cmp T.total };
@@ -84,7 +84,7 @@ impl<const BOTH: bool, T: Ord, M: MergeStateMut<A = T, B = T>, C: Count> MergeOp
 
     #[inline(always)]
     fn from_a(&self, state: &mut M, n: usize) -> Result<bool, AllocError> {
-        state.advance_a(n, !BOTH)
+        state.advance_a(n, !SHARED)
     }
 
     #[inline(always)]
@@ -94,12 +94,12 @@ impl<const BOTH: bool, T: Ord, M: MergeStateMut<A = T, B = T>, C: Count> MergeOp
 
     #[inline(always)]
     fn collision(&self, state: &mut M) -> Result<bool, AllocError> {
-        keep_left::<BOTH, _>(state)
+        pass_shared::<SHARED, _>(state)
     }
 
     #[inline(always)]
     fn event(&self, state: &mut M, heads: Ordering) -> Result<bool, AllocError> {
-        state.take_left(heads, !BOTH, BOTH)
+        state.take_left(heads, !SHARED, SHARED)
     }
 
     #[inline(always)]
@@ -108,19 +108,19 @@ impl<const BOTH: bool, T: Ord, M: MergeStateMut<A = T, B = T>, C: Count> MergeOp
     }
 }
 
-/// Passes an element that is on both sides, and takes the left one if `BOTH`.
+/// Passes two equal elements, and keeps the left one if `SHARED`.
 #[inline(always)]
-fn keep_left<const BOTH: bool, M: MergeStateMut>(state: &mut M) -> Result<bool, AllocError>
+fn pass_shared<const SHARED: bool, M: MergeStateMut>(state: &mut M) -> Result<bool, AllocError>
     requires ready { M.ready state.old }
     requires some_left { 0 < length (M.left state.old) }
     requires some_right { 0 < length (M.right state.old) }
-    ensures gives { Both (λ p r q. M.advances_a p 1 BOTH r q) (λ p r q. M.skips_b p 1 r q) state.old
-        result state.new }
+    ensures gives { Both (λ p r q. M.advances_a p 1 SHARED r q) (λ p r q. M.skips_b p 1 r q)
+        state.old result state.new }
     ensures takes { IfOk result (λ go_on. go_on ≡ true
         → (M.left state.new ≡ drop 1 (M.left state.old))
         × (M.right state.new ≡ drop 1 (M.right state.old)) × M.ready state.new) }
 {
-    if state.advance_a(1, BOTH)? {
+    if state.advance_a(1, SHARED)? {
         state.skip_b(1)
     } else {
         Ok(false)

@@ -361,7 +361,9 @@ pub fn combine_at<
     end(alloc, a, i, b, j, front, op, kids)
 }
 
-/// The combine of the trees below the place where two prefixes diverge.
+/// The combine of the trees below the place where two prefixes diverge: that of `a` without its
+/// first `i` components, and that of `b` without its first `j`. The first `known` components that
+/// are left of either prefix are known to agree.
 #[cycle(combining)]
 fn combine_below<
     K: TKey,
@@ -621,6 +623,7 @@ pub fn combine_whole<
         Some(tree) => tree,
         None => O::Made::blank(alloc, Seal::new()),
     };
+    // By this call the proof learns that each tree is canonical. It does nothing else.
     canonical(&made);
     Ok(made)
 }

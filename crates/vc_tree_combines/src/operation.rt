@@ -64,8 +64,10 @@ pub trait Combine<K: TKey, V: TValue, W: TValue, A: RadixNode<K, V>, B: RadixNod
         ensures { IfOk result (λ made. IsMade K.cmp (λ w z. says self.now None w z)
             (shortened from (B.tree tree.now)) (option_map Self.Made.tree made)) };
 
+    /// A key that neither tree binds is not bound by the result.
     ghost says_none: { (op : Self) → says op None None None };
 
+    /// It needs nothing where neither tree binds a key.
     ghost asks_none: { (op : Self) → asks op None None };
 }
 

@@ -85,8 +85,9 @@ pub fn come<
     O: Change<K, V, W, B, T>,
 >(alloc: Global, trees: &[B], from: usize, op: &O, kids: &mut Vec<T>) -> Result<(), AllocError>
     requires { AllByRecursion (λ y. from < length (B.tree y).prefix) trees.now }
-    ensures { OnOk result (AreAdded (ComesAs K.cmp (O.look K.cmp) (O.says op.now) T.tree B.tree from)
-        (λ t. t) trees.now kids.old.items kids.new.items) }
+    ensures { OnOk result (AreAdded
+        (ComesAs K.cmp (O.look K.cmp) (O.says op.now) T.tree B.tree from) (λ t. t) trees.now
+        kids.old.items kids.new.items) }
 {
     let mut rest = trees;
     while let Some((tree, others)) = rest.split_first() {
@@ -113,8 +114,9 @@ fn note<
     comers: &mut Vec<Comer<T>>,
 ) -> Result<(), AllocError>
     requires { AllByRecursion (λ y. from < length (B.tree y).prefix) trees.now }
-    ensures { OnOk result (AreAdded (ComesAs K.cmp (O.look K.cmp) (O.says op.now) T.tree B.tree from)
-        (comer place) trees.now comers.old.items comers.new.items) }
+    ensures { OnOk result (AreAdded
+        (ComesAs K.cmp (O.look K.cmp) (O.says op.now) T.tree B.tree from) (comer place) trees.now
+        comers.old.items comers.new.items) }
 {
     comers.reserve(trees.len())?;
     let mut rest = trees;

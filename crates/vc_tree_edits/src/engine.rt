@@ -37,7 +37,7 @@ use vc_tree_facing::facing::{compare_at, expected, split};
 use vc_tree_facing::nodes::{finish, keep, value_at};
 use vc_tree_nodes::building::{Build, Seal};
 use vc_tree_nodes::children::{ChildList, Fragment, Parts};
-use vc_tree_nodes::making::stored;
+use vc_tree_nodes::making::children_of;
 use vc_tree_nodes::reading::{RadixNode, TKey, TValue};
 
 /// What a change makes of values, and of trees that one side alone has. Values of the left tree are
@@ -53,7 +53,7 @@ pub trait Change<K: TKey, V: TValue, W: TValue, B: RadixNode<K, W>, T: Build<K, 
     /// What it needs in order to be asked there.
     ghost asks: { Self → Option V → Option W → Type 0 };
 
-    /// The value of a key of which the trees have these, and the change of all that stands below.
+    /// The value of a key to which the trees bind these, and the change of all that is below.
     fn at_values(&self, v: Option<V>, w: Option<&W>) -> Result<(Option<V>, Self), AllocError>
         requires { asks self.now v ((look K.cmp).at (option_copied w)) }
         ensures value { IfOk result
@@ -77,26 +77,31 @@ pub trait Change<K: TKey, V: TValue, W: TValue, B: RadixNode<K, W>, T: Build<K, 
         ensures { IfOk result (λ made. ComesAs K.cmp (look K.cmp) (says self.now) T.tree B.tree from
             tree.now made) };
 
+    /// A key that neither tree binds is not bound afterwards.
     ghost says_none: { (op : Self) → says op None (look K.cmp).none None };
 
+    /// A value stays, or its kept clone does, where the right tree has nothing.
     ghost says_left: { (op : Self) (v z : Option V) → IsKept T.keeps v z
         → says op v (look K.cmp).none z };
 
+    /// It needs nothing where neither tree binds a key.
     ghost asks_none: { (op : Self) → asks op None (look K.cmp).none };
 
+    /// What it says of a kept clone of a value, it says of the value, too.
     ghost says_kept: { (op : Self) (u v : Option V) (w : Option W) (z : Option V)
         → IsKept T.keeps u v → says op v w z → says op u w z };
 
+    /// What it needs of a value holds of its kept clone, too.
     ghost asks_kept: { (op : Self) (u v : Option V) (w : Option W) → IsKept T.keeps u v
         → asks op u w → asks op v w };
 }
 
-/// What stands in the right tree below the place where two prefixes part.
+/// What the right tree has below the place where two prefixes diverge.
 #[derive(Drop)]
 struct Meeting<'b, B> {
     /// For how many components the prefixes agree.
     front: usize,
-    /// What stands below them in the right tree.
+    /// What the right tree has below them.
     right: Trees<'b, B>,
     /// How many components of it are left out.
     right_from: usize,
@@ -141,19 +146,18 @@ enum Below<T> {
     Children(Vec<T>),
 }
 
-/// The parts of a tree without the front of its prefix, and of what stands below a place in what is
-/// left of it.
+/// What is left of a tree without the front of its prefix, taken apart at a place of that prefix.
 #[derive(Drop)]
 struct Taken<P, V, T> {
     /// The components up to that place.
     prefix: P,
     /// The value of the key that ends there.
     value: Option<V>,
-    /// What stands below.
+    /// What is below that place.
     left: Below<T>,
 }
 
-/// Takes a tree apart behind the first `i` components of its prefix and `front` more.
+/// Takes a tree apart after the first `i` components of its prefix and `front` more.
 fn take_apart<K: TKey, V: TValue, T: Build<K, V>>(
     alloc: Global,
     tree: T,
@@ -188,7 +192,7 @@ fn take_apart<K: TKey, V: TValue, T: Build<K, V>>(
     })
 }
 
-/// The components behind the first `i`. Asks for memory where `i` is above 0 and more than 16 are
+/// The components after the first `i`. Asks for memory where `i` is above 0 and more than 16 are
 /// left.
 fn without_front<K, P: Fragment<K>>(alloc: Global, prefix: P, i: usize) -> Result<P, AllocError>
     requires { i ≤ length (P.items prefix) }
@@ -215,8 +219,8 @@ fn take_list<K: TKey, V: TValue, T: Build<K, V>>(
     Ok(mem::replace(list, Vec::new(alloc)))
 }
 
-/// What the change makes of the value of a node that was taken apart, and of the value of the right
-/// node that stands behind an equal front.
+/// What the change makes of the value of a node that was taken apart, and of the value that the
+/// right node has after an equal front.
 fn change_values<
     K: TKey,
     V: TValue,
@@ -248,22 +252,22 @@ fn change_values<
 /// The state of a change, before anything below is changed.
 #[derive(Drop)]
 struct Begun<'b, P, V, B, O, T> {
-    /// The components up to the place where the prefixes part.
+    /// The components up to the place where the prefixes diverge.
     prefix: P,
     /// What is left of the value there.
     value: Option<V>,
-    /// The change of all that stands below.
+    /// The change of all that is below.
     below: O,
-    /// What stands below in the left tree.
+    /// What the left tree has below.
     left: Below<T>,
-    /// What stands below in the right tree.
+    /// What the right tree has below.
     right: Trees<'b, B>,
-    /// How many components of their prefixes stand before the place.
+    /// How many components of their prefixes come before the place.
     right_from: usize,
 }
 
 /// Takes a tree apart beside another one, and changes the value at the place where their prefixes
-/// part.
+/// diverge.
 fn begin<
     'b,
     K: TKey,
@@ -412,7 +416,7 @@ fn finish_in<K: TKey, V: TValue, T: Build<K, V>>(
     if value.is_none() && kids.len() < 2 {
         return finish(alloc, prefix.as_slice(), value, kids);
     }
-    let children = stored::<K, V, T>(kids)?;
+    let children = children_of::<K, V, T>(kids)?;
     Ok(Some(T::assemble(prefix, value, children, Seal::new())))
 }
 
@@ -458,7 +462,7 @@ pub fn change_at<
     Ok(made)
 }
 
-/// Changes what is below the place where two prefixes part, by what is below it in the right tree.
+/// Changes what is below the place where two prefixes diverge, by what the right tree has below it.
 #[cycle(changing)]
 fn change_below<
     K: TKey,

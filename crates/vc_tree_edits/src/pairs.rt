@@ -159,7 +159,8 @@ pub struct Stop<'b, B> {
 /// A stop behind so many left trees, at the first of these right trees.
 pub fn stop_at<'b, B>(passed: usize, rights: &'b [B]) -> Stop<'b, B>
     ensures passed { result.passed ≡ passed }
-    ensures rights { rights.now ≡ cons_option (option_copied result.other) (trees_of result.others) }
+    ensures rights { rights.now
+        ≡ cons_option (option_copied result.other) (trees_of result.others) }
     ensures end { option_copied result.other ≡ None → trees_of result.others ≡ [] }
 {
     match rights.split_first() {
@@ -329,7 +330,8 @@ pub fn next_pair<'b, K: TKey, V: TValue, W: TValue, A: RadixNode<K, V>, B: Radix
     requires right { AreChildren K.cmp (shortened_in B.tree from (trees_of rights)) }
     requires plan { IsPlan plan }
     ensures { IsNextPair (by_component A.tree B.tree 0 from K.cmp) (drop at lefts.now)
-        (trees_of rights.entry) result.passed (option_copied result.other) (trees_of result.others) }
+        (trees_of rights.entry) result.passed (option_copied result.other)
+        (trees_of result.others) }
 {
     let rest = &lefts[at..];
     match rights {

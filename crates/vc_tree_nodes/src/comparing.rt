@@ -32,7 +32,7 @@ fn is_same_value<V: PartialEq>(left: Option<&V>, right: Option<&V>) -> bool
 
 /// Whether the trees have the same nodes, up to equal components and values.
 #[cycle(comparing)]
-fn is_same<K: TKey, V: TValue + PartialEq, T: RadixNode<K, V>>(left: &T, right: &T) -> bool
+fn has_same_nodes<K: TKey, V: TValue + PartialEq, T: RadixNode<K, V>>(left: &T, right: &T) -> bool
     ensures { result ≡ same_tree K.cmp V.eq (T.tree left.now) (T.tree right.now) }
 {
     is_same_key(left.prefix(), right.prefix())
@@ -50,7 +50,7 @@ fn is_same_list<K: TKey, V: TValue + PartialEq, T: RadixNode<K, V>>(left: &[T], 
     loop {
         match (left_rest.split_first(), right_rest.split_first()) {
             (Some((x, xs)), Some((y, ys))) => {
-                if !is_same(x, y) {
+                if !has_same_nodes(x, y) {
                     return false;
                 }
                 left_rest = xs;
@@ -76,7 +76,7 @@ pub(crate) fn is_equal<K: TKey, V: TValue + PartialEq, T: RadixNode<K, V>>(
 {
     canonical(left);
     canonical(right);
-    is_same(left, right)
+    has_same_nodes(left, right)
 }
 
 /// Trees are equal exactly where their maps are: they bind equal keys, to equal values.

@@ -13,7 +13,7 @@ ghost use Rattle.vc_tree_nodes.specs.Children.{seen};
 
 use crate::building::{Build, Seal};
 use crate::children::Fragment;
-use crate::making::stored;
+use crate::making::children_of;
 use crate::plain::RadixTree;
 use crate::reading::{RadixNode, TKey, TValue, canonical};
 use crate::shared::ArcRadixTree;
@@ -46,7 +46,7 @@ pub fn copy_shortened<K: TKey, V: TValue, S: RadixNode<K, V>, T: Build<K, V>>(
     let prefix = T::Prefix::from_slice(alloc, &tree.prefix()[from..])?;
     let value = clone_value(tree.value())?;
     let copies = copy_list::<K, V, S, T>(alloc, tree.children())?;
-    let children = stored::<K, V, T>(copies)?;
+    let children = children_of::<K, V, T>(copies)?;
     let copy = T::assemble(prefix, value, children, Seal::new());
     canonical(&copy);
     Ok(copy)

@@ -211,9 +211,9 @@ fn add_child<K: TKey, V: TValue, T: Build<K, V>>(
         value: own,
         mut children,
     } = node.take_apart(Seal::new());
-    let done = add_to::<K, V, T>(alloc, &mut children, i, leaf);
+    let added = add_to::<K, V, T>(alloc, &mut children, i, leaf);
     *tree = T::assemble(prefix, own, children, Seal::new());
-    done
+    added
 }
 
 /// Inserts a tree at place `i` of the children.

@@ -11,7 +11,7 @@ use crate::reading::{TKey, TValue};
 use std::alloc::{AllocError, Global};
 
 /// The list as children. Takes no memory where it is empty.
-pub fn stored<K: TKey, V: TValue, T: Build<K, V>>(
+pub fn children_of<K: TKey, V: TValue, T: Build<K, V>>(
     list: Vec<T>,
 ) -> Result<Option<T::Children>, AllocError>
     ensures { IfOk result (λ children. listed T.Children.items children ≡ list.items) }
@@ -33,7 +33,7 @@ pub fn new_node<K: TKey, V: TValue, T: Build<K, V>>(
     ensures { IfOk result (λ one. T.tree one ≡ made prefix.now value (map T.tree children.items)) }
 {
     let prefix = T::Prefix::from_slice(alloc, prefix)?;
-    let children = stored::<K, V, T>(children)?;
+    let children = children_of::<K, V, T>(children)?;
     Ok(T::assemble(prefix, value, children, Seal::new()))
 }
 

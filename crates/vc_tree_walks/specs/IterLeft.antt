@@ -58,7 +58,7 @@ module _ {K V T : Type 0} (tree : T → Tree K V) where
       ]
 
   -- what one step found, and what is left after it
-  abbrev pub IsTurn : Iter K V T → WalkStep (List K × Bor V) → Iter K V T → Type 0
-  IsTurn s (Item x) t = (pairs_left s ≡ (x.0, x.1.now) ∷ pairs_left t) × (work_left t < work_left s)
-  IsTurn s Moved t = (pairs_left s ≡ pairs_left t) × (work_left t < work_left s)
-  IsTurn s Done t = (pairs_left s ≡ []) × (pairs_left t ≡ [])
+  abbrev pub IsStep : Iter K V T → WalkStep (List K × Bor V) → Iter K V T → Type 0
+  IsStep s (Item x) t = (pairs_left s ≡ (x.0, x.1.now) ∷ pairs_left t) × (work_left t < work_left s)
+  IsStep s Moved t = (pairs_left s ≡ pairs_left t) × (work_left t < work_left s)
+  IsStep s Done t = (pairs_left s ≡ []) × (pairs_left t ≡ [])

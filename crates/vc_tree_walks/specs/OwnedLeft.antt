@@ -98,8 +98,8 @@ module _ {K V T : Type 0} (tree : T → Tree K V) where
   held_work s = if s.started then way_work (tree s.tree) s.way else (1 + 2 * nodes (tree s.tree))
 
   -- what one step found, and what is left after it
-  abbrev pub IsTurn : (V → V → Type 0) → ObjAndIter K V T → WalkStep (List K × V) → ObjAndIter K V T → Type 0
-  IsTurn is_clone s (Item x) t =
+  abbrev pub IsStep : (V → V → Type 0) → ObjAndIter K V T → WalkStep (List K × V) → ObjAndIter K V T → Type 0
+  IsStep is_clone s (Item x) t =
       (v : V) × is_clone v x.1 × (held_left s ≡ (x.0, v) ∷ held_left t) × (held_work t < held_work s)
-  IsTurn is_clone s Moved t = (held_left s ≡ held_left t) × (held_work t < held_work s)
-  IsTurn is_clone s Done t = (held_left s ≡ []) × (held_left t ≡ [])
+  IsStep is_clone s Moved t = (held_left s ≡ held_left t) × (held_work t < held_work s)
+  IsStep is_clone s Done t = (held_left s ≡ []) × (held_left t ≡ [])

@@ -4,7 +4,7 @@ ghost use Rattle.std.specs.Prelude.{◌≡◌, ◌<◌, ◌++◌, [], IfOk, OnOk
 ghost use Rattle.std.specs.Option.{option_copied};
 ghost use Rattle.vc_tree_walks.specs.Left.{pair_at, rows_left, rows_work};
 ghost use Rattle.vc_tree_walks.specs.IterLeft.{pairs_from, pairs_left, work_left, rows_of};
-ghost use Rattle.vc_tree_walks.specs.IterLeft.{rows_before, IsItem, IsTurn};
+ghost use Rattle.vc_tree_walks.specs.IterLeft.{rows_before, IsItem, IsStep};
 
 mod seek;
 
@@ -91,8 +91,8 @@ impl<'a, K: TKey, V: TValue, T: RadixNode<K, V>> Iter<'a, K, V, T> {
 
 impl<'a, K: TKey, V: TValue + 'a, T: RadixNode<K, V>> Iter<'a, K, V, T> {
     /// One step: to the root, to the next tree of the innermost row, or out of that row.
-    fn turn(&mut self) -> Result<WalkStep<(IterKey<K>, &'a V)>, AllocError>
-        ensures ok { IfOk result (λ turn. IsTurn T.tree self.old turn self.new) }
+    fn step(&mut self) -> Result<WalkStep<(IterKey<K>, &'a V)>, AllocError>
+        ensures ok { IfOk result (λ step. IsStep T.tree self.old step self.new) }
         ensures err { OnErr result (0 < work_left T.tree self.old) }
     {
         if let Some((front, tree)) = self.start {
@@ -177,7 +177,7 @@ impl<'a, K: TKey, V: TValue + 'a, T: RadixNode<K, V>> Iterator for Iter<'a, K, V
 
     fn next(&mut self) -> Option<Result<(IterKey<K>, &'a V), AllocError>> {
         loop {
-            match self.turn() {
+            match self.step() {
                 Ok(WalkStep::Item(item)) => return Some(Ok(item)),
                 Ok(WalkStep::Moved) => {}
                 Ok(WalkStep::Done) => return None,

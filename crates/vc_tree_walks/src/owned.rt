@@ -7,7 +7,7 @@ ghost use Rattle.vc_tree_model.specs.Tree.{nodes};
 ghost use Rattle.vc_tree_model.specs.Walk.{walk};
 ghost use Rattle.vc_tree_walks.specs.Left.{pair_at};
 ghost use Rattle.vc_tree_walks.specs.OwnedLeft.{entered, held_left, held_work, opened, own_pairs};
-ghost use Rattle.vc_tree_walks.specs.OwnedLeft.{way_left, way_work, IsItem, IsReached, IsTurn};
+ghost use Rattle.vc_tree_walks.specs.OwnedLeft.{way_left, way_work, IsItem, IsReached, IsStep};
 
 use crate::key::IterKey;
 use crate::turn::WalkStep;
@@ -69,8 +69,8 @@ impl<K: TKey, V: TValue, T: RadixNode<K, V> + Drop> ObjAndIter<K, V, T> {
 
     /// Makes one step: to the root, to the next child of the innermost open node, or out of that
     /// node.
-    fn turn(&mut self) -> Result<WalkStep<(IterKey<K>, V)>, AllocError>
-        ensures ok { IfOk result (λ turn. IsTurn T.tree V.is_clone self.old turn self.new) }
+    fn step(&mut self) -> Result<WalkStep<(IterKey<K>, V)>, AllocError>
+        ensures ok { IfOk result (λ step. IsStep T.tree V.is_clone self.old step self.new) }
         ensures err { OnErr result (0 < held_work T.tree self.old) }
     {
         let alloc = self.tree.allocator();
@@ -230,7 +230,7 @@ impl<K: TKey, V: TValue, T: RadixNode<K, V> + Drop> Iterator for ObjAndIter<K, V
 
     fn next(&mut self) -> Option<Result<(IterKey<K>, V), AllocError>> {
         loop {
-            match self.turn() {
+            match self.step() {
                 Ok(WalkStep::Item(item)) => return Some(Ok(item)),
                 Ok(WalkStep::Moved) => {}
                 Ok(WalkStep::Done) => return None,

@@ -58,7 +58,8 @@ impl<'a, K: TKey, V: TValue, T: RadixNode<K, V>> Prefixes<'a, K, V, T> {
     /// Goes to a node, where what is left of the path begins with its prefix, or else to none. The
     /// first `known` components of both are known to agree.
     fn enter(&mut self, node: &'a T, known: usize)
-        requires { Agree K.cmp (T.tree node.now).prefix (drop self.old.used self.old.path.now) known }
+        requires { Agree K.cmp (T.tree node.now).prefix (drop self.old.used self.old.path.now)
+            known }
         ensures left { prefixes_left K.cmp T.tree self.new ≡ along self.old.used
             (lookup K.cmp (T.tree node.now)) (drop self.old.used self.old.path.now) }
         ensures work { prefixes_work T.tree self.new ≤ nodes (T.tree node.now) }

@@ -41,7 +41,7 @@ pub fn rule_of(site: &Readable, path: &[u8]) -> Option<bool>
     site.rules().get(path).copied()
 }
 
-/// Removes the path's own rule, and answers it. Only what begins with the path may be read otherwise
+/// Removes the path's own rule, and answers it. Only what begins with the path may read otherwise
 /// than before.
 pub fn take_back(site: &mut Readable, path: &[u8]) -> Result<Option<bool>, AllocError>
     ensures rule { IfOk result (λ rule. rule ≡ lookup nat_cmp site.old path.now) }

@@ -22,39 +22,39 @@ use vc_merge::moving::SiftState;
 use vc_merge::parts::{PartsState, open_gap};
 use vc_merge::states::append_clones;
 
-/// Moves to the front of the left list what is only in it or, if `BOTH`, what is in both. Answers
-/// how many they are.
-fn sift<const BOTH: bool, T: Ord>(list: &mut [T], that: &[T]) -> usize
+/// Moves to the front of the left list what is in both lists if `SHARED`, and what is only in the
+/// left one otherwise. Answers how many they are.
+fn sift<const SHARED: bool, T: Ord>(list: &mut [T], that: &[T]) -> usize
     requires left_ascends { Ascends T.cmp list.old }
     requires right_ascends { Ascends T.cmp that.now }
-    ensures { IsSetOf T.cmp (λ x y. x ≡ y) (λ x y. x ≡ y) (keeps (not BOTH) false BOTH) list.old
+    ensures { IsSetOf T.cmp (λ x y. x ≡ y) (λ x y. x ≡ y) (keeps (not SHARED) false SHARED) list.old
         that.now (take result list.new) }
 {
     let mut state = SiftState::new(list, that);
-    let _never_refused = merge(&mut state, &LeftOp::<BOTH>, &mut Uncounted);
+    let _never_refused = merge(&mut state, &LeftOp::<SHARED>, &mut Uncounted);
     state.kept()
 }
 
-/// Moves to the front of a list what is in only one of its two parts and, if `BOTH`, the left one
+/// Moves to the front of a list what is in only one of its two parts and, if `SHARED`, the left one
 /// of what is in both. The parts are its first `end` elements and those from `next` on. Answers how
 /// many they are.
-fn join<const BOTH: bool, T: Ord>(list: &mut [T], end: usize, next: usize) -> usize
+fn join<const SHARED: bool, T: Ord>(list: &mut [T], end: usize, next: usize) -> usize
     requires order { end ≤ next }
     requires within { next ≤ length list.old }
     requires left_ascends { Ascends T.cmp (take end list.old) }
     requires right_ascends { Ascends T.cmp (drop next list.old) }
-    ensures { IsSetOf T.cmp (λ x y. x ≡ y) (λ x y. x ≡ y) (keeps true true BOTH) (take end list.old)
-        (drop next list.old) (take result list.new) }
+    ensures { IsSetOf T.cmp (λ x y. x ≡ y) (λ x y. x ≡ y) (keeps true true SHARED)
+        (take end list.old) (drop next list.old) (take result list.new) }
 {
     let mut state = PartsState::new(list, end, next);
-    let _never_refused = merge(&mut state, &EitherOp::<BOTH>, &mut Uncounted);
+    let _never_refused = merge(&mut state, &EitherOp::<SHARED>, &mut Uncounted);
     state.kept()
 }
 
-/// Replaces the left list by what is in only one of the lists and, if `BOTH`, the left one of what
+/// Replaces the left list by what is in only one list and, if `SHARED`, the left one of what
 /// is in both. All elements are moved. The only allocation comes before the first move.
 fn absorb<
-    const BOTH: bool,
+    const SHARED: bool,
     T: Ord + MadeWith<A> + Drop,
     const N: usize,
     const M: usize,
@@ -62,7 +62,7 @@ fn absorb<
 >(list: &mut SmallVec<T, N, A>, that: SmallVec<T, M, A>) -> Result<(), AllocError>
     requires left_ascends { Ascends T.cmp list.old.items }
     requires right_ascends { Ascends T.cmp that.items }
-    ensures ok { OnOk result (IsSetOf T.cmp (λ x y. x ≡ y) (λ x y. x ≡ y) (keeps true true BOTH)
+    ensures ok { OnOk result (IsSetOf T.cmp (λ x y. x ≡ y) (λ x y. x ≡ y) (keeps true true SHARED)
         list.old.items that.items list.new.items) }
     ensures room { length list.old.items + length that.items ≤ N → IsOk result }
     ensures err { OnErr result (list.new.items ≡ list.old.items) }
@@ -71,7 +71,7 @@ fn absorb<
     open_gap(list, that.len())?;
     let next = list.len();
     append_moved(list, that);
-    let kept = join::<BOTH, _>(list.as_mut_slice(), end, next);
+    let kept = join::<SHARED, _>(list.as_mut_slice(), end, next);
     list.truncate(kept);
     Ok(())
 }
@@ -79,7 +79,7 @@ fn absorb<
 /// Does the same with clones of the elements of the right list. The only allocation and all clones
 /// come before the first move.
 fn unite<
-    const BOTH: bool,
+    const SHARED: bool,
     T: Ord + Clone + MadeWith<A> + Drop,
     const N: usize,
     A: Allocator + Copy,
@@ -87,7 +87,7 @@ fn unite<
     requires left_ascends { Ascends T.cmp list.old.items }
     requires right_ascends { Ascends T.cmp that.now }
     requires clones { ClonesAreEqual T.cmp T.is_clone }
-    ensures ok { OnOk result (IsSetOf T.cmp (λ x y. x ≡ y) T.is_clone (keeps true true BOTH)
+    ensures ok { OnOk result (IsSetOf T.cmp (λ x y. x ≡ y) T.is_clone (keeps true true SHARED)
         list.old.items that.now list.new.items) }
     ensures err { OnErr result (list.new.items ≡ list.old.items) }
 {
@@ -99,7 +99,7 @@ fn unite<
         list.truncate(end);
         return cloned;
     }
-    let kept = join::<BOTH, _>(list.as_mut_slice(), end, next);
+    let kept = join::<SHARED, _>(list.as_mut_slice(), end, next);
     list.truncate(kept);
     Ok(())
 }

@@ -61,6 +61,8 @@ impl<K: Ord, V: Ord, const N: usize, A: Allocator> Ord for TotalVecMap<K, V, N, 
         (λ p q. V.matches_partial_cmp p.1 q.1)) a.mappings b.mappings)
         (λ a b. V.matches_partial_cmp a.default b.default) };
 
+    /// `cmp` answers `Equal` for maps that are equal, and for no others: pair by pair, then by the
+    /// defaults.
     ghost matches_eq = { let K' = K.cmp in let V' = V.cmp in
         let pairs = lists_ties (λ p q. ordering_then (K' p.0 q.0) (V' p.1 q.1))
         (λ p q. both_tied _ _ (K' p.0 q.0) (V' p.1 q.1) (K.matches_eq p.0 q.0)

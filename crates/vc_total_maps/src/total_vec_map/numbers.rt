@@ -20,7 +20,8 @@ where
 }
 
 impl<K: Ord, V: Eq + Zero, const N: usize, A: Allocator> TotalVecMap<K, V, N, A> {
-    /// Whether nothing is mapped and the default equals 0. Takes no memory.
+    /// Whether nothing is mapped and the default equals 0. No mapped value equals the default, so
+    /// this is whether the map is 0 at each key. Takes no memory.
     pub fn is_zero(&self) -> bool
         ensures { IsTrue result
             ↔ ((self.now.mappings ≡ []) × IsTrue (V.eq self.now.default V.zero)) }
@@ -42,7 +43,8 @@ where
 }
 
 impl<K: Ord, V: Eq + One, const N: usize, A: Allocator> TotalVecMap<K, V, N, A> {
-    /// Whether nothing is mapped and the default equals 1. Takes no memory.
+    /// Whether nothing is mapped and the default equals 1. No mapped value equals the default, so
+    /// this is whether the map is 1 at each key. Takes no memory.
     pub fn is_one(&self) -> bool
         ensures { IsTrue result
             ↔ ((self.now.mappings ≡ []) × IsTrue (V.eq self.now.default V.one)) }

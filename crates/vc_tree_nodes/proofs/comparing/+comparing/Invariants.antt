@@ -5,8 +5,8 @@ use Rattle.vc_tree_model.specs.Equal.{same_tree_in}
 use Rattle.vc_tree_nodes.specs.Children.{seen}
 use Rattle.vc_tree_nodes.proofs.comparing.+comparing.Given as goal
 
-abbrev pub decreases-is_same : goal.decreases-is_same
-decreases-is_same g l = 2 * nodes (g.T.RadixNode.tree l.left.now)
+abbrev pub decreases-has_same_nodes : goal.decreases-has_same_nodes
+decreases-has_same_nodes g l = 2 * nodes (g.T.RadixNode.tree l.left.now)
 
 abbrev pub decreases-is_same_list : goal.decreases-is_same_list
 decreases-is_same_list g l = 2 * forest_nodes (seen g.T.RadixNode.tree l.left.now) + 1

@@ -12,8 +12,8 @@ returns-in_err-leaf-clause-err g c =
     always-err c.from_residual.result (tree_alike_refl g.T.Build.keeps g.met.T.Build.keeps_refl
     (g.T.RadixNode.tree c.args.tree.now))
 
-pub add_to-done-requires : goal.add_to-done-requires
-add_to-done-requires g c =
+pub add_to-added-requires : goal.add_to-added-requires
+add_to-added-requires g c =
     let tree = g.T.RadixNode.tree in
     gap-within g.K.Ord.cmp tree _ c.requires.fits.first c.args.i
     (subst (λ f. IsGapAt g.K.Ord.cmp f c.requires.fits.first c.args.i)
@@ -27,7 +27,7 @@ assemble-requires g c =
     let children = c.take_apart-prefix.ensures.children ∙ ap (λ t. (tree t).children) c.replace-node.ensures.value in
     let canonical =
     subst (λ t. IsCanonical g.K.Ord.cmp (tree t)) c.replace-node.ensures.value c.take_apart-prefix.ensures.canonical in
-    on-both c.add_to-done.result c.add_to-done.ensures.ok c.add_to-done.ensures.err
+    on-both c.add_to-added.result c.add_to-added.ensures.ok c.add_to-added.ensures.err
     (λ added. inserted-canonical (child-added g.met.T.Build.keeps_refl g.met.T.Build.keeps_trans g.met.K.Ord.total tree
     (tree c.args.tree.now) prefix value children refl canonical c.requires.solid c.requires.fits c.in_ok-leaf.ensures.is added))
     (λ alike. parts-canonical g.met.T.Build.keeps_refl g.met.T.Build.keeps_trans g.met.K.Ord.total tree
@@ -41,7 +41,7 @@ returns-clause-ok g c =
     let children = c.take_apart-prefix.ensures.children ∙ ap (λ t. (tree t).children) c.replace-node.ensures.value in
     let canonical =
     subst (λ t. IsCanonical g.K.Ord.cmp (tree t)) c.replace-node.ensures.value c.take_apart-prefix.ensures.canonical in
-    on-ok c.add_to-done.result
+    on-ok c.add_to-added.result
     (λ added. child-added g.met.T.Build.keeps_refl g.met.T.Build.keeps_trans g.met.K.Ord.total tree (tree c.args.tree.now)
     prefix value children c.assemble.ensures canonical c.requires.solid c.requires.fits c.in_ok-leaf.ensures.is added)
-    c.add_to-done.ensures.ok
+    c.add_to-added.ensures.ok
