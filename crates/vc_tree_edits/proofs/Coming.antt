@@ -18,11 +18,11 @@ use Rattle.vc_tree_facing.specs.Sides.{by_component, by_component_total, side_ne
 use Rattle.vc_tree_facing.specs.declared.sides.EventSide.TheVariants.{Right}
 use Rattle.vc_tree_facing.proofs.Next.{done, right-next, made-right}
 use Rattle.vc_tree_edits.specs.Pairs.{ArePassed}
-use Rattle.vc_tree_edits.specs.Woven.{comer, woven, ComesAs, AreAdded, AreNoted, IsNextNoted}
+use Rattle.vc_tree_edits.specs.Woven.{comer, woven, ComesAs, AreAdded, AreNoted, AreWithin, IsNextNoted}
 use Rattle.vc_tree_edits.specs.declared.comers.Comer.{Comer}
 use Rattle.vc_tree_edits.proofs.Passing.{lefts-run, lefts-skip}
 use Rattle.vc_tree_edits.proofs.Sifted.{first-above, lefts-done, passed-front}
-use Rattle.vc_tree_edits.proofs.Weaving.{AreWithin, within-more, within-comer, woven-run, woven-comer}
+use Rattle.vc_tree_edits.proofs.Weaving.{within-more, within-comer, woven-run, woven-comer}
 
 module _ {K V W O A B : Type 0} {cmp : K → K → Ordering} {ta : A → Tree K V} {tb : B → Tree K W} {i j : ℕ} {l : Look cmp W O}
     {R : Option V → O → Option V → Type 0} {asks : Option V → O → Type 0} {xs : List A} {ys : List B} where

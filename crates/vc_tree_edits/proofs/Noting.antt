@@ -17,7 +17,8 @@ use Rattle.vc_tree_facing.specs.Seeking.{side_at}
 use Rattle.vc_tree_facing.specs.Sides.{by_component}
 use Rattle.vc_tree_edits.specs.declared.comers.Comer.{Comer}
 use Rattle.vc_tree_edits.specs.Woven.{comer, AreAdded, AreNoted, IsNextNoted}
-use Rattle.vc_tree_edits.proofs.Passing.{Passes, IsBelow, IsLeft, stopped, stopped-next, stopped-fewer, true-false, place-next, gap-next}
+use Rattle.vc_tree_edits.proofs.Passing.{Passes, IsBelow, IsLeft, stopped, stopped-next, stopped-fewer, stopped-behind, true-false}
+use Rattle.vc_tree_edits.proofs.Passing.{place-next, gap-next, end-next, not-nil}
 
 module _ {M A B : Type 0} (left : M → List A) (right : M → List B) (comers : M → List (Comer A))
     (order : A ⊎ B → A ⊎ B → Ordering) (comes : B → A → Type 0) (end : ℕ) where
@@ -80,6 +81,20 @@ module _ {M A B : Type 0} (left : M → List A) (right : M → List B) (comers :
   pub noted-fewer : (P : List A → List B → Type 0) (s t : M) → IsMergedBefore noting order P s (Ok tt) t
       → length (left t) ≤ length (left s)
   noted-fewer P s t m = stopped-fewer order noting passes P s t (stopped order noting passes P s t m)
+
+  -- and P of what is after the pair
+  pub noted-behind : (P : List A → List B → Type 0) (s t : M) → IsMergedBefore noting order P s (Ok tt) t → (y : B)
+      (rest : List B) → right t ≡ y ∷ rest
+      → (ls : List A) × P ls rest × (length (left s) - (length (left s) - length (left t)) - 1 ≡ length ls)
+  noted-behind P s t m = stopped-behind order noting passes P s t (stopped order noting passes P s t m)
+
+-- ---- where no right tree is left
+
+module _ {A B : Type 0} (comes : B → A → Type 0) (order : A ⊎ B → A ⊎ B → Ordering) (n : ℕ) (ls : List A) (cs : List (Comer A)) where
+  pub end-noted : (rs : List B) (found : Option B) (rest : List B) → rs ≡ [] → rs ≡ cons_option found rest
+      → (found ≡ None → rest ≡ []) → IsNextNoted comes order n ls rs (length ls) found rest cs cs
+  end-noted rs None rest r e none = record { pair = end-next order ls rs None rest r e none; noted = refl }
+  end-noted rs (Some y) rest r e none = absurd (not-nil rs y rest r e)
 
 -- ---- a search for the only tree of the right side
 

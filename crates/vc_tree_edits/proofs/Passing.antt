@@ -2,6 +2,7 @@
 --     children-ascend        canonical children ascend by the components with which they continue
 --     stopped        where a merge stops that passes what one list alone has
 --     stopped-next, stopped-fewer, stopped-behind        the next two that begin alike, and what may still be compared
+--     end-next        where no right tree is left
 --     only_passes, passes, only-stopped        a merge that does nothing else
 --     place-next, gap-next        where a search for the only tree of the right side stops
 --     place-sought, gap-sought        the child that is found by a search
@@ -258,6 +259,23 @@ module _ {M A B : Type 0} (order : A ⊎ B → A ⊎ B → Ordering) (op : Allow
         let b = behind P (op.left t) (op.right t) rest y e h.stands in
         let n = ap length (passed-lefts order h.runs _ _ _ _ h.passed) ∙ length-append (lefts (events h.runs)) (op.left t) in
         (b.0, b.1, omega (arith, n, b.2))
+
+pub not-nil : {X : Type 0} (rs : List X) (y : X) (rest : List X) → rs ≡ [] → rs ≡ y ∷ rest → ⊥
+not-nil rs y rest r e = cc
+
+-- where no right tree is left, the left ones are passed
+module _ {A B : Type 0} (order : A ⊎ B → A ⊎ B → Ordering) (ls : List A) where
+  abbrev pub end-next : (rs : List B) (found : Option B) (rest : List B) → rs ≡ [] → rs ≡ cons_option found rest
+      → (found ≡ None → rest ≡ []) → IsNextPair order ls rs (length ls) found rest
+  end-next rs None rest r e n =
+      let all = drop_of_length-le ls (omega arith) in
+      record {
+        within = omega arith;
+        runs = of_left ls ∷ [];
+        passed = ([], sym (append-nil ls), rw r (left_below-nil order ls), (sym all, e));
+        stands = (all, n refl);
+      }
+  end-next rs (Some y) rest r e n = absurd (not-nil rs y rest r e)
 
 -- one that does nothing else, and is never refused
 module _ {M A B : Type 0} (left : M → List A) (right : M → List B) (order : A ⊎ B → A ⊎ B → Ordering) where

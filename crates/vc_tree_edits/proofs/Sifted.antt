@@ -32,9 +32,9 @@ use Rattle.vc_tree_facing.proofs.Advancing.{passed}
 use Rattle.vc_tree_facing.proofs.Next.{done, all-done as doing-done, left_within, left-next, both-next, made-left}
 use Rattle.vc_tree_edits.specs.Pairs.{ArePassed, IsNextPair}
 use Rattle.vc_tree_edits.proofs.Passing.{passed-lefts, lefts-run, lefts-skip}
-use Rattle.vc_tree_edits.proofs.Weaving.{AreWithin, within-more, woven-run}
+use Rattle.vc_tree_edits.proofs.Weaving.{within-more, woven-run}
 use Rattle.vc_tree_edits.specs.declared.comers.Comer.{Comer}
-use Rattle.vc_tree_edits.specs.Woven.{woven}
+use Rattle.vc_tree_edits.specs.Woven.{woven, AreWithin}
 use Rattle.vc_tree_edits.specs.Kids.{IsSetAt}
 use Rattle.vc_tree_edits.proofs.Placed.{alone-made, first-at}
 

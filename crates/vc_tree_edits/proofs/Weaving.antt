@@ -1,21 +1,15 @@
 -- A list into which comers are put at their places.
 --     woven-run        more trees behind the last comer
 --     woven-comer        a comer behind all trees
---     woven-split, woven-first, woven-step        the trees before the first comer, and that one
-use Rattle.std.proofs.Common.{◌≡◌, ℕ, ◌+◌, ◌-◌, ◌≤◌, [], ◌∷◌, ◌++◌, List, Some, slice_get, refl, sym, ◌∙◌, take, drop, length, append_assoc}
+--     woven-step        the trees before a comer, and that one
+use Rattle.std.proofs.Common.{◌≡◌, ℕ, ◌+◌, ◌-◌, ◌≤◌, [], ◌∷◌, ◌++◌, List, refl, sym, ◌∙◌, take, drop, length, append_assoc}
 use Rattle.std.proofs.Common.{arith, length-drop}
-use Rattle.std.proofs.lemmas.List.{take-append-le, drop-append-le, drop-drop, take_all}
+use Rattle.std.proofs.lemmas.List.{take-append-le, drop-append-le, take_all}
 use Rattle.std.proofs.Math.ListN.{drop_of_length-le}
-use Rattle.std.proofs.Math.Seq.{take-add}
-use Rattle.std.specs.List.{AllByRecursion}
 use Rattle.vc_tree_edits.specs.declared.comers.Comer.{Comer}
-use Rattle.vc_tree_edits.specs.Woven.{comer, woven}
+use Rattle.vc_tree_edits.specs.Woven.{comer, woven, AreWithin}
 
 module _ {T : Type 0} where
-  -- no comer stands behind the first m trees
-  abbrev pub AreWithin : ℕ → List (Comer T) → Type 0
-  AreWithin m cs = AllByRecursion (λ c. c.place ≤ m) cs
-
   pub within-more : (m n : ℕ) (cs : List (Comer T)) → m ≤ n → AreWithin m cs → AreWithin n cs
   within-more m n [] h a = tt
   within-more m n (c ∷ cs) h a = let k = a.0 in (omega (arith, k, h), within-more m n cs h a.1)
@@ -48,21 +42,6 @@ module _ {T : Type 0} where
       let k = a.0 in
       let more = woven-comer (n + (c.place - n)) (drop (c.place - n) ks) t cs p (rest-long n ks c.place p e k) a.1 in
       rw more (sym (append_assoc (take (c.place - n) ks) (c.tree ∷ woven (n + (c.place - n)) (drop (c.place - n) ks) cs) (t ∷ [])))
-
-  -- the trees before the first comer stay where they are
-  pub woven-split : (ks : List T) (c : Comer T) (cs : List (Comer T)) (p : ℕ) → p ≤ c.place
-      → woven 0 ks (c ∷ cs) ≡ take p ks ++ woven p (drop p ks) (c ∷ cs)
-  woven-split ks c cs p h =
-      let m : c.place - 0 ≡ p + (c.place - p) = omega (arith, h) in
-      let k : 0 + (p + (c.place - p)) ≡ p + (c.place - p) = omega arith in
-      rw (m, k, take-add p (c.place - p) ks, ← drop-drop (c.place - p) p ks)
-      (append_assoc (take p ks) (take (c.place - p) (drop p ks)) _)
-
-  -- the same of a list of comers by its first one
-  pub woven-first : (ks : List T) (cs : List (Comer T)) (c : Comer T) (p : ℕ) → slice_get cs 0 ≡ Some c → p ≤ c.place
-      → take p ks ++ woven p (drop p ks) cs ≡ woven 0 ks cs
-  woven-first ks [] c p e h = absurd (cc)
-  woven-first ks (d ∷ cs) c p e h = let same : d ≡ c = cc in sym (woven-split ks d cs p (rw same h))
 
   -- the trees before a comer, and that one, are put behind a list
   pub woven-step : (list rest : List T) (n : ℕ) (c : Comer T) (cs : List (Comer T))

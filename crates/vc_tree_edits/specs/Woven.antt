@@ -1,5 +1,6 @@
 -- Trees of the right side that come into a list of trees. No public clause cites these words.
-use Rattle.std.specs.Prelude.{◌≡◌, ℕ, ◌+◌, ◌-◌, List, [], ◌∷◌, ◌++◌, drop, length, take, Option, Some, None, ◌⊎◌}
+use Rattle.std.specs.Prelude.{◌≡◌, ℕ, ◌+◌, ◌-◌, ◌≤◌, List, [], ◌∷◌, ◌++◌, drop, length, take, Option, Some, None, ◌⊎◌}
+use Rattle.std.specs.List.{AllByRecursion}
 use Rattle.std.specs.declared.cmp.Ordering.{Ordering}
 use Rattle.vc_merge.specs.Chain.{Run, of_left, of_right, of_both}
 use Rattle.vc_tree_model.specs.Look.{Look}
@@ -12,6 +13,10 @@ module _ {T : Type 0} where
   -- a tree that comes in behind the first n trees
   abbrev pub comer : ℕ → T → Comer T
   comer n t = record { place = n; tree = t }
+
+  -- no comer is after more than n trees
+  abbrev pub AreWithin : ℕ → List (Comer T) → Type 0
+  AreWithin n cs = AllByRecursion (λ c. c.place ≤ n) cs
 
   -- these trees, before which n others are, with each comer put in at its place
   abbrev pub woven : ℕ → List T → List (Comer T) → List T

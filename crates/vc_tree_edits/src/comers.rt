@@ -2,19 +2,19 @@
 //! they are woven in at the end.
 
 ghost use Rattle.std.specs.Prelude.{◌≡◌, ◌+◌, ◌-◌, ◌^◌, ◌<◌, ◌≤◌, ◌++◌, ◌∷◌, [], true, false};
-ghost use Rattle.std.specs.Prelude.{Ok, IfOk, OnOk};
+ghost use Rattle.std.specs.Prelude.{Ok, IfOk, OnOk, OnSome};
 ghost use Rattle.std.specs.Prelude.{length, take, drop};
 ghost use Rattle.std.specs.List.{AllByRecursion};
 ghost use Rattle.std.specs.Option.{option_copied};
 ghost use Rattle.std.specs.declared.cmp.Ordering.TheVariants.{Equal};
 ghost use Rattle.vc_merge.specs.Fronts.{LeftBelow, RightBelow, HeadsCompare};
-ghost use Rattle.vc_merge.specs.Plan.{IsPlan};
+ghost use Rattle.vc_merge.specs.Plan.{IsPlan, planned};
 ghost use Rattle.vc_tree_model.specs.Canonical.{AreChildren};
 ghost use Rattle.vc_tree_nodes.specs.Children.{seen};
 ghost use Rattle.vc_tree_facing.specs.Facing.{shortened_in};
 ghost use Rattle.vc_tree_facing.specs.Sides.{by_component, by_component_total};
 ghost use Rattle.vc_tree_edits.specs.Pairs.{trees_of};
-ghost use Rattle.vc_tree_edits.specs.Woven.{comer, woven, ComesAs, AreAdded, IsNextNoted};
+ghost use Rattle.vc_tree_edits.specs.Woven.{comer, woven, ComesAs, AreAdded, AreWithin, IsNextNoted};
 
 use crate::engine::Change;
 use crate::pairs::{Stop, Trees, place_among, stop_at};
@@ -52,17 +52,25 @@ fn move_over<T: Drop>(from: &mut VecDeque<T>, to: &mut Vec<T>, n: usize) -> Resu
     Ok(())
 }
 
-/// Puts each comer into a list at its place. Trees before the first comer are not moved.
+/// Puts each comer into a list at its place. Trees before the first comer are not moved, and a
+/// single comer is inserted.
 pub fn weave<T: Drop>(mut list: Vec<T>, comers: Vec<Comer<T>>) -> Result<Vec<T>, AllocError>
+    requires within { AreWithin (length list.items) comers.items }
     ensures { IfOk result (λ all. all.items ≡ woven 0 list.items comers.items) }
 {
-    let Some(first) = comers.first() else {
+    let mut comers = VecDeque::from_vec(comers);
+    let Some(Comer { place, tree }) = comers.pop_front() else {
         return Ok(list);
     };
-    let mut done = first.place.min(list.len());
-    let mut rest = VecDeque::from_vec(list.split_off(done)?);
-    list.reserve(rest.len().saturating_add(comers.len()))?;
-    let mut comers = VecDeque::from_vec(comers);
+    if comers.is_empty() {
+        list.insert(place, tree)?;
+        return Ok(list);
+    }
+    let mut rest = VecDeque::from_vec(list.split_off(place)?);
+    let room = rest.len().saturating_add(comers.len());
+    list.reserve(room.saturating_add(1))?;
+    list.push(tree)?;
+    let mut done = place;
     'comers: while let Some(Comer { place, tree }) = comers.pop_front() {
         let more = place.saturating_sub(done);
         move_over(&mut rest, &mut list, more)?;
@@ -231,7 +239,8 @@ impl<
 }
 
 /// The next two trees that begin alike, found by a merge, which notes the right trees before them.
-/// `place` trees stay before the left ones.
+/// `place` trees stay before the left ones. Where each merge uses the plan of the two whole lists,
+/// and continues from the pair before, all of them together compare no more than one merge.
 fn merge_and_note<
     'b,
     K: TKey,
@@ -240,6 +249,7 @@ fn merge_and_note<
     B: RadixNode<K, W>,
     T: Build<K, V>,
     O: Change<K, V, W, B, T>,
+    C: Count,
 >(
     alloc: Global,
     lefts: &[T],
@@ -249,15 +259,21 @@ fn merge_and_note<
     plan: Plan,
     op: &O,
     comers: &mut Vec<Comer<T>>,
+    steps: &mut C,
 ) -> Result<Stop<'b, B>, AllocError>
     requires end { place + length lefts.now < 2 ^ 64 }
     requires left { AreChildren K.cmp (seen T.tree lefts.now) }
     requires right { AreChildren K.cmp (shortened_in B.tree from rights.now) }
     requires plan { IsPlan plan }
-    ensures { IfOk result (λ stop. IsNextNoted
+    ensures next { IfOk result (λ stop. IsNextNoted
         (ComesAs K.cmp (O.look K.cmp) (O.says op.now) T.tree B.tree from)
         (by_component T.tree B.tree 0 from K.cmp) place lefts.now rights.now stop.passed
         (option_copied stop.other) (trees_of stop.others) comers.old.items comers.new.items) }
+    ensures before { IfOk result (λ stop. OnSome stop.other (C.counted steps.new
+        + planned plan (length lefts.now - stop.passed - 1) (length (trees_of stop.others))
+        ≤ C.counted steps.old + planned plan (length lefts.now) (length rights.now))) }
+    ensures counted { C.counted steps.new ≤ C.counted steps.old
+        + planned plan (length lefts.now) (length rights.now) }
 {
     let all: NoteAlone<'_, K, V, W, O> = NoteAlone {
         alloc,
@@ -273,7 +289,7 @@ fn merge_and_note<
         right: rights,
         comers: mem::replace(comers, Vec::new(alloc)),
     };
-    merge_as(&mut state, &all, plan, &mut Uncounted)?;
+    merge_as(&mut state, &all, plan, steps)?;
     *comers = state.comers;
     Ok(stop_at(lefts.len() - state.left.len(), state.right))
 }
@@ -328,7 +344,8 @@ fn search_and_note<
 
 /// The next two trees that begin alike, of the left ones from the place `at` on, before which
 /// `kept` ones stay. The right trees before them are noted. A single tree is searched for; the
-/// children of a node are merged by `plan`, which is that of the two whole lists.
+/// children of a node are merged by `plan`, which is that of the two whole lists. Where no right
+/// tree is left, nothing is compared.
 pub fn next_noted<
     'b,
     K: TKey,
@@ -364,8 +381,12 @@ pub fn next_noted<
         Trees::One(tree) => {
             search_and_note::<K, V, W, B, T, O>(alloc, rest, kept, tree, from, op, comers)
         }
+        Trees::Many(trees) if trees.is_empty() => Ok(stop_at(rest.len(), trees)),
         Trees::Many(trees) => {
-            merge_and_note::<K, V, W, B, T, O>(alloc, rest, kept, trees, from, plan, op, comers)
+            let steps = &mut Uncounted;
+            merge_and_note::<K, V, W, B, T, O, _>(
+                alloc, rest, kept, trees, from, plan, op, comers, steps,
+            )
         }
     }
 }

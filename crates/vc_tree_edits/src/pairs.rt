@@ -318,6 +318,7 @@ fn search_pair<'b, K: TKey, V: TValue, W: TValue, A: RadixNode<K, V>, B: RadixNo
 
 /// The next two trees that begin alike, of the left ones from the place `at` on. A single tree is
 /// searched for; the children of a node are merged by `plan`, which is that of the two whole lists.
+/// Where no right tree is left, nothing is compared.
 pub fn next_pair<'b, K: TKey, V: TValue, W: TValue, A: RadixNode<K, V>, B: RadixNode<K, W>>(
     lefts: &[A],
     at: usize,
@@ -336,6 +337,7 @@ pub fn next_pair<'b, K: TKey, V: TValue, W: TValue, A: RadixNode<K, V>, B: Radix
     let rest = &lefts[at..];
     match rights {
         Trees::One(tree) => search_pair(rest, tree, from),
+        Trees::Many(trees) if trees.is_empty() => stop_at(rest.len(), trees),
         Trees::Many(trees) => merge_to_pair(rest, trees, from, plan, &mut Uncounted),
     }
 }

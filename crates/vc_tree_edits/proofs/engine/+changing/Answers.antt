@@ -101,6 +101,17 @@ change_list-pairs-init g t c =
           (ap (λ cs. map g.T.RadixNode.tree (woven 0 [] cs)) none);
     }
 
+pub change_list-weave-requires : goal.change_list-weave-requires
+change_list-weave-requires g t c =
+    let inv = c.pairs.invariant in
+    let p = rw c.deref.ensures.value at c.in_ok-passed.ensures in
+    let noted =
+    coming-done g.T.Build.keeps g.met.T.Build.keeps_refl (g.met.O.Change.says_left c.args.op.now) c.pairs.list.items c.pairs.at
+    c.pairs.kept c.pairs.comers.items c.next_noted.new.comers.items inv.going inv.places
+    (omega (arith, inv.order, inv.within)) p c.pass-kept.new.list.items c.pass-kept.result c.pass-kept.ensures.built
+    c.pass-kept.ensures.rest in
+    rw c.truncate.ensures.items (record { within = noted.1 })
+
 pub change_list-returns-in_default : goal.change_list-returns-in_default
 change_list-returns-in_default g t c =
     let inv = c.pairs.invariant in

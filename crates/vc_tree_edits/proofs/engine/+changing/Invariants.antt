@@ -7,8 +7,7 @@ use Rattle.vc_tree_facing.specs.Doing.{IsDoing}
 use Rattle.vc_tree_facing.specs.Facing.{shortened_in}
 use Rattle.vc_tree_edits.specs.Pairs.{trees_of}
 use Rattle.vc_tree_edits.specs.Taken.{meeting_nodes}
-use Rattle.vc_tree_edits.specs.Woven.{woven}
-use Rattle.vc_tree_edits.proofs.Weaving.{AreWithin}
+use Rattle.vc_tree_edits.specs.Woven.{woven, AreWithin}
 use Rattle.vc_tree_edits.proofs.engine.+changing.Given as goal
 
 abbrev pub decreases-change_at : goal.decreases-change_at
