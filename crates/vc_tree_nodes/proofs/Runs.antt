@@ -4,7 +4,7 @@
 --     group-run, group-within, group-rest, group-below        a group, and the keys after it
 --     group-found, least-new, least-stays        how a group and the least number in common are found
 --     last-front, keep-grows, keep-binds, yielded-more        pairs that are kept
---     gathered-whole, kept-exactly        what all pairs bind
+--     gathered-whole        what all pairs bind
 use Rattle.std.proofs.Common.{◌≡◌, ℕ, zero, suc, ◌+◌, ◌-◌, ◌<◌, ◌≤◌, [], ◌∷◌, ◌++◌, List, inl, inr, Option, None}
 use Rattle.std.proofs.Common.{Some, Bool, refl, sym, ap, subst, ◌∙◌, arith, take, drop, length, map, true, false}
 use Rattle.std.proofs.Common.{true≢false, cond, get_or, length-drop, length-append}
@@ -508,10 +508,3 @@ yielded-more {K} {S} {V} cmp keeps r t spell pairs b f g h m k =
 pub gathered-whole : {K V : Type 0} (keeps : V → V → Type 0) (came f g : List K → Option V)
     → IsEqualMap keeps came f → ((k : List K) → g k ≡ f k) → IsEqualMap keeps came g
 gathered-whole keeps came f g h e k = kept_by keeps (came k) (f k) (came k) (g k) refl (sym (e k)) (h k)
-
--- values that are kept as they are
-pub kept-exactly : {K V : Type 0} (f g : List K → Option V) → IsEqualMap (λ v w. v ≡ w) f g → (k : List K) → g k ≡ f k
-kept-exactly {K} {V} f g h k = by (f k) (g k) (h k)
-  where
-    by : (v w : Option V) → IsKept (λ v w. v ≡ w) v w → w ≡ v
-    by v w h = grind arith

@@ -1,4 +1,4 @@
-//! Trees made of pairs.
+//! Trees made of pairs, for the crates above.
 
 ghost use Rattle.std.specs.Prelude.{◌≡◌, List, map, IfOk};
 ghost use Rattle.std.specs.Iterator.{IsFinite};
@@ -7,14 +7,11 @@ ghost use Rattle.vc_tree_model.specs.Canonical.{IsCanonical};
 ghost use Rattle.vc_tree_model.specs.Map.{IsEqualMap, lookup};
 ghost use Rattle.vc_tree_model.specs.Matches.{AreCopies};
 ghost use Rattle.vc_tree_model.specs.OneTree.{IsOneTree, IsSmallest};
-ghost use Rattle.vc_tree_model.specs.Pairs.{IsCollected, last_bound};
-ghost use Rattle.vc_tree_model.specs.Value.{Copies};
+ghost use Rattle.vc_tree_model.specs.Pairs.{last_bound};
 
 use crate::building::{Build, Seal};
 use crate::gathering::Gathering;
-use crate::plain::RadixTree;
 use crate::reading::{TKey, TValue, canonical};
-use crate::shared::ArcRadixTree;
 use crate::spelling::Spelled;
 use std::alloc::{AllocError, Global};
 
@@ -31,8 +28,8 @@ fn may_be_many(most: Option<usize>) -> bool {
 }
 
 /// The tree of the pairs: built at once from the pairs as long as their keys ascend, and then one
-/// by one.
-fn collect<K: TKey, V: TValue, S: Spelled<K>, I: Iterator<Item = (S, V)>, T: Build<K, V>>(
+/// by one. Where memory is refused, the pairs that came and the iterator are dropped.
+pub fn collect<K: TKey, V: TValue, S: Spelled<K>, I: Iterator<Item = (S, V)>, T: Build<K, V>>(
     alloc: Global,
     iter: I,
 ) -> Result<T, AllocError>
@@ -53,93 +50,4 @@ fn collect<K: TKey, V: TValue, S: Spelled<K>, I: Iterator<Item = (S, V)>, T: Bui
     gathering.finish(alloc, &mut tree)?;
     canonical(&tree);
     Ok(tree)
-}
-
-impl<K: TKey, V: TValue> RadixTree<K, V> {
-    /// The tree of the pairs, which may come in any order. Of pairs with equal keys the last one
-    /// counts. As long as keys ascend, the tree is built at once, which takes less time.
-    ///
-    /// Fails where memory is refused. The pairs that came and the iterator are then dropped.
-    pub fn from_iter<'a, I: Iterator<Item = (&'a [K], V)>>(
-        alloc: Global,
-        iter: I,
-    ) -> Result<Self, AllocError>
-    where
-        K: 'a,
-        requires can { I.can_next iter }
-        requires ends { IsFinite (I.remaining iter) }
-        ensures pairs { IfOk result (λ t. WholeRun I.next_gives iter
-            (λ p. IsCollected K.cmp (map (λ b. (b.0.now, b.1)) p.items) t)) }
-        ensures canonical { IfOk result (IsCanonical K.cmp) }
-        ensures one { IfOk result (λ t. IsOneTree K.cmp (AreCopies V.is_clone) t) }
-        ensures smallest { IfOk result (λ t. IsSmallest K.cmp (AreCopies V.is_clone) t) }
-    {
-        collect(alloc, iter)
-    }
-
-    /// The tree of the pairs, which may come in any order. Of pairs with equal keys the last one
-    /// counts. The keys are dropped. As long as they ascend, the tree is built at once, which takes
-    /// less time.
-    ///
-    /// Fails where memory is refused. The pairs that came and the iterator are then dropped.
-    pub fn from_vecs<I: Iterator<Item = (Vec<K>, V)>>(
-        alloc: Global,
-        iter: I,
-    ) -> Result<Self, AllocError>
-        requires can { I.can_next iter }
-        requires ends { IsFinite (I.remaining iter) }
-        ensures pairs { IfOk result (λ t. WholeRun I.next_gives iter
-            (λ p. IsCollected K.cmp (map (λ b. (b.0.items, b.1)) p.items) t)) }
-        ensures canonical { IfOk result (IsCanonical K.cmp) }
-        ensures one { IfOk result (λ t. IsOneTree K.cmp (AreCopies V.is_clone) t) }
-        ensures smallest { IfOk result (λ t. IsSmallest K.cmp (AreCopies V.is_clone) t) }
-    {
-        collect(alloc, iter)
-    }
-}
-
-impl<K: TKey, V: TValue> ArcRadixTree<K, V> {
-    /// The tree of the pairs, which may come in any order. Of pairs with equal keys the last one
-    /// counts. As long as keys ascend, the tree is built at once, which takes less time. As with
-    /// any insertion into a shared tree, the values are those that came, or clones of them.
-    ///
-    /// Fails where memory is refused. The pairs that came and the iterator are then dropped.
-    pub fn from_iter<'a, I: Iterator<Item = (&'a [K], V)>>(
-        alloc: Global,
-        iter: I,
-    ) -> Result<Self, AllocError>
-    where
-        K: 'a,
-        requires can { I.can_next iter }
-        requires ends { IsFinite (I.remaining iter) }
-        ensures pairs { IfOk result (λ t. WholeRun I.next_gives iter
-            (λ p. IsEqualMap (Copies V.is_clone)
-            (last_bound K.cmp (map (λ b. (b.0.now, b.1)) p.items)) (lookup K.cmp t))) }
-        ensures canonical { IfOk result (IsCanonical K.cmp) }
-        ensures one { IfOk result (λ t. IsOneTree K.cmp (AreCopies V.is_clone) t) }
-        ensures smallest { IfOk result (λ t. IsSmallest K.cmp (AreCopies V.is_clone) t) }
-    {
-        collect::<K, V, &'a [K], I, Self>(alloc, iter)
-    }
-
-    /// The tree of the pairs, which may come in any order. Of pairs with equal keys the last one
-    /// counts. The keys are dropped. As long as they ascend, the tree is built at once, which takes
-    /// less time. The values are those that came, or clones of them, as in `from_iter`.
-    ///
-    /// Fails where memory is refused. The pairs that came and the iterator are then dropped.
-    pub fn from_vecs<I: Iterator<Item = (Vec<K>, V)>>(
-        alloc: Global,
-        iter: I,
-    ) -> Result<Self, AllocError>
-        requires can { I.can_next iter }
-        requires ends { IsFinite (I.remaining iter) }
-        ensures pairs { IfOk result (λ t. WholeRun I.next_gives iter
-            (λ p. IsEqualMap (Copies V.is_clone)
-            (last_bound K.cmp (map (λ b. (b.0.items, b.1)) p.items)) (lookup K.cmp t))) }
-        ensures canonical { IfOk result (IsCanonical K.cmp) }
-        ensures one { IfOk result (λ t. IsOneTree K.cmp (AreCopies V.is_clone) t) }
-        ensures smallest { IfOk result (λ t. IsSmallest K.cmp (AreCopies V.is_clone) t) }
-    {
-        collect::<K, V, Vec<K>, I, Self>(alloc, iter)
-    }
 }

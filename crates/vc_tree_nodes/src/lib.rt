@@ -23,4 +23,4 @@ mod sealed;
 pub mod shared;
 pub mod sharing;
 pub mod showing;
-mod spelling;
+pub mod spelling;

@@ -120,6 +120,17 @@ module _ {V : Type 0} (is_clone : V → V → Type 0) where
       → IsEqualMap (HaveOneSource is_clone) f g
   maps-one_source f g h k = kept-one_source (f k) (g k) (h k)
 
+module _ {K V : Type 0} where
+  -- values that are kept themselves are the same at each key
+  pub maps-same : (f g : List K → Option V) → IsEqualMap (λ x y. x ≡ y) f g → (k : List K) → g k ≡ f k
+  maps-same f g h k = by (f k) (g k) (h k)
+    where
+      by : (v w : Option V) → IsKept (λ x y. x ≡ y) v w → w ≡ v
+      by None None h = refl
+      by None (Some w) h = absurd h
+      by (Some v) None h = absurd h
+      by (Some v) (Some w) h = ap (λ x. Some x) (sym h)
+
 -- what calls cite where clones are exact
 pub ruleset exactly = (
   copies-exact,
@@ -131,6 +142,7 @@ pub ruleset exactly = (
   equal_maps-exact,
   without-exact,
   maps-exact,
+  maps-same,
   alike-exact,
   copied-exact,
   snapshot-exact,

@@ -1,7 +1,9 @@
 //! The trait through which the two flavours are made and changed.
 
-ghost use Rattle.std.specs.Prelude.{◌≡◌, ◌≤◌, List, [], None, Ok, Some, length, IfOk, IsOk, OnOk};
-ghost use Rattle.std.specs.Prelude.{MatchOption, OnErr};
+ghost use Rattle.std.specs.Prelude.{◌≡◌, ◌≤◌, List, [], None, Ok, Some, length, map, IfOk, IsOk};
+ghost use Rattle.std.specs.Prelude.{MatchOption, OnErr, OnOk};
+ghost use Rattle.std.specs.Iterator.{IsFinite};
+ghost use Rattle.std.specs.Iterator.Runs.{WholeRun};
 ghost use Rattle.vc_tree_model.specs.Tree.{made, no_tree};
 ghost use Rattle.vc_tree_model.specs.Asking.{CanJudge, MayJudge};
 ghost use Rattle.vc_tree_model.specs.Combine.{IsCombined, IsInnerAt, IsLeftAt, IsOuterAt};
@@ -10,6 +12,9 @@ ghost use Rattle.vc_tree_model.specs.Cover.{IsRemoved, IsRetained};
 ghost use Rattle.vc_tree_model.specs.Value.{Copies, IsKept};
 ghost use Rattle.vc_tree_model.specs.Map.{HaveEqualMaps, IsEqualMap, IsInserted, lookup};
 ghost use Rattle.vc_tree_model.specs.Canonical.{IsCanonical};
+ghost use Rattle.vc_tree_model.specs.Matches.{AreCopies};
+ghost use Rattle.vc_tree_model.specs.OneTree.{IsOneTree, IsSmallest};
+ghost use Rattle.vc_tree_model.specs.Pairs.{last_bound};
 ghost use Rattle.vc_tree_model.specs.Same.{IsAlike};
 ghost use Rattle.vc_tree_model.specs.Under.{prefixed, under};
 ghost use Rattle.vc_tree_removal.specs.Changing.{CanChange, CanWrite, MayWrite, IsChanged};
@@ -21,6 +26,7 @@ use std::alloc::{AllocError, Global};
 use vc_tree_combines::combines;
 use vc_tree_edits::{combining, prepending};
 use vc_tree_nodes::building::Seal;
+use vc_tree_nodes::collecting::collect;
 use vc_tree_nodes::copying::CloneTree;
 use vc_tree_nodes::insertion;
 use vc_tree_nodes::plain::RadixTree;
@@ -61,6 +67,53 @@ pub trait AbstractRadixTreeMut<K: TKey, V: TValue>: CloneTree<K, V> + AbstractRa
         ensures canonical { IfOk result (λ one. IsCanonical K.cmp (Self.tree one)) }
     {
         insertion::single(alloc, key, value)
+    }
+
+    /// The tree of the pairs, which may come in any order. Of pairs with equal keys the last one
+    /// counts. As long as keys ascend, the tree is built at once, which takes less time. A value of
+    /// a [`RadixTree`] is the one that came; in an [`ArcRadixTree`] it may be a clone of it, as
+    /// with any insertion.
+    ///
+    /// Fails only where memory is refused, or the clone of a value. The pairs that came and the
+    /// iterator are then dropped.
+    ///
+    /// ```
+    /// let ports = RadixTree::from_iter(alloc, names_and_ports.into_iter())?;
+    /// ```
+    final fn from_iter<'a, I: Iterator<Item = (&'a [K], V)>>(
+        alloc: Global,
+        iter: I,
+    ) -> Result<Self, AllocError>
+    where
+        K: 'a,
+        requires can { I.can_next iter }
+        requires ends { IsFinite (I.remaining iter) }
+        ensures pairs { IfOk result (λ t. WholeRun I.next_gives iter (λ p. IsEqualMap Self.keeps
+            (last_bound K.cmp (map (λ b. (b.0.now, b.1)) p.items)) (lookup K.cmp (Self.tree t)))) }
+        ensures canonical { IfOk result (λ t. IsCanonical K.cmp (Self.tree t)) }
+        ensures one { IfOk result (λ t. IsOneTree K.cmp (AreCopies V.is_clone) (Self.tree t)) }
+        ensures smallest { IfOk result
+            (λ t. IsSmallest K.cmp (AreCopies V.is_clone) (Self.tree t)) }
+    {
+        collect::<K, V, &'a [K], I, Self>(alloc, iter)
+    }
+
+    /// The same of pairs whose keys are lists. The lists are dropped.
+    final fn from_vecs<I: Iterator<Item = (Vec<K>, V)>>(
+        alloc: Global,
+        iter: I,
+    ) -> Result<Self, AllocError>
+        requires can { I.can_next iter }
+        requires ends { IsFinite (I.remaining iter) }
+        ensures pairs { IfOk result (λ t. WholeRun I.next_gives iter (λ p. IsEqualMap Self.keeps
+            (last_bound K.cmp (map (λ b. (b.0.items, b.1)) p.items))
+            (lookup K.cmp (Self.tree t)))) }
+        ensures canonical { IfOk result (λ t. IsCanonical K.cmp (Self.tree t)) }
+        ensures one { IfOk result (λ t. IsOneTree K.cmp (AreCopies V.is_clone) (Self.tree t)) }
+        ensures smallest { IfOk result
+            (λ t. IsSmallest K.cmp (AreCopies V.is_clone) (Self.tree t)) }
+    {
+        collect::<K, V, Vec<K>, I, Self>(alloc, iter)
     }
 
     /// Binds the key to the value, which replaces the old one. The other keys keep their values.
