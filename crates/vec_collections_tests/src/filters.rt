@@ -41,8 +41,8 @@ pub fn rule_of(site: &Readable, path: &[u8]) -> Option<bool>
     site.rules().get(path).copied()
 }
 
-/// Removes the path's own rule, and answers it. Only what begins with the path may read otherwise
-/// than before.
+/// Removes the path's own rule, and answers it. For a path that does not begin with it nothing
+/// changes.
 pub fn take_back(site: &mut Readable, path: &[u8]) -> Result<Option<bool>, AllocError>
     ensures rule { IfOk result (λ rule. rule ≡ lookup nat_cmp site.old path.now) }
     ensures gone { OnOk result (IsWithout nat_cmp (λ v w. v ≡ w) path.now
