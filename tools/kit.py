@@ -95,11 +95,16 @@ class KeptByKit:
 
 
 class LeftInPlace:
-    """The libraries that rt ci left in the folders out/ of a repository, of a kit that keeps none elsewhere. They carry no stamp, as those of rt check do,
-    so one counts where it is younger than the files that it is made of and than the libraries below it."""
+    """The libraries that rt check or rt ci left in the folders out/ of a repository, of a kit that keeps none elsewhere. Those of rt check carry a stamp, a
+    sum of what they are made of. One of rt ci has none: it counts where it is younger than the files that it is made of and than the libraries below it.
+    So no library of one is laid over those of the other."""
 
     def __init__(self, root, _crates):
         self.crates = {it.name: it for it in command().rtlib.crates_below(str(root))}
+
+    def is_stamped(self, crate):
+        """Whether rt check made the library of a crate, and all below it, from the files that are there."""
+        return all(it.is_built() for it in [*crate.below(), crate])
 
     def made(self, crate):
         """When the library of a crate was made by rt ci from the files that are there, or None."""
@@ -114,7 +119,8 @@ class LeftInPlace:
     def lay(self, crate):
         """Lays a library where checks of the copy find it, if it is proved as it stands."""
         if not os.path.isdir(crate.rlib):
-            if not self.made(self.crates[crate.name]):
+            found = self.crates[crate.name]
+            if not (self.is_stamped(found) or self.made(found)):
                 return False
             shutil.copytree(Path(self.crates[crate.name].rlib), crate.rlib, symlinks=True)
         return True
