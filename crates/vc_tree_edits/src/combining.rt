@@ -45,8 +45,8 @@ fn change<
     Ok(())
 }
 
-/// Changes a whole tree, without adding keys. It is taken out, and the empty tree replaces it until
-/// the change has ended.
+/// Changes a whole tree, without adding keys. The empty tree replaces it where no key is left, or
+/// where memory is refused.
 fn lessen<K: TKey, V: TValue, W: TValue, B: RadixNode<K, W>, T: Build<K, V>, O: Lessen<K, V, W, T>>(
     tree: &mut T,
     that: &B,
@@ -60,12 +60,12 @@ fn lessen<K: TKey, V: TValue, W: TValue, B: RadixNode<K, W>, T: Build<K, V>, O: 
     ensures canonical { IsCanonical K.cmp (T.tree tree.new) }
 {
     let alloc = tree.allocator();
-    let mut whole = mem::replace(tree, T::blank(alloc, Seal::new()));
-    canonical(tree);
-    if lessen_at(alloc, &mut whole, 0, that, 0, 0, op)? {
-        canonical(&whole);
-        *tree = whole;
+    let outcome = lessen_at(alloc, tree, 0, that, 0, 0, op);
+    if !matches!(outcome, Ok(true)) {
+        *tree = T::blank(alloc, Seal::new());
     }
+    canonical(tree);
+    outcome?;
     Ok(())
 }
 
