@@ -5,6 +5,7 @@
 --     reaches-itself, reaches-child, reaches-own, reaches-key        the way down to the pair
 --     longer, within, own-sized        how many components are counted on it
 --     first-empty        where the empty key is bound, it is the first
+--     last-empty        where no other key is bound, it is the last
 use Rattle.std.proofs.Common.{◌≡◌, ℕ, suc, ◌+◌, ◌-◌, ◌^◌, ◌≤◌, [], ◌∷◌, ◌++◌, List, Option, None, Some, refl, sym, ap}
 use Rattle.std.proofs.Common.{subst, ◌∙◌, arith, map, min, length, length-append, append-nil, append_assoc, true, inl, inr}
 use Rattle.std.proofs.Common.{true≢false}
@@ -320,3 +321,16 @@ pub unprepended : {K V X E : Type 0} (view : X → List K × V) (p : Option (Lis
     → IfOk r (λ found. option_map view found ≡ option_map (prepended []) p) → IfOk r (λ found. option_map view found ≡ p)
 unprepended view None r h = h
 unprepended view (Some b) r h = h
+
+pub mapped-itself : {X : Type 0} (o : Option X) → option_map (λ x. x) o ≡ o
+mapped-itself None = refl
+mapped-itself (Some x) = refl
+
+-- of a map that binds no key but the empty one, each greatest pair has that key
+pub last-empty : {K V : Type 0} (cmp : K → K → Ordering) (f : List K → Option V) (o : Option (List K × V))
+    → MatchOption o ((k : List K) → f k ≡ None) (λ b. IsGreatestPair cmp f b) → ((k : List K) → IsSome (f k) → k ≡ [])
+    → (P : Type 0) → (o ≡ None → P) → ((v : V) → o ≡ Some ([], v) → P) → P
+last-empty cmp f None m only P n s = n refl
+last-empty cmp f (Some (k, v)) m only P n s =
+    let empty : k ≡ [] = only k (rw m.bound refl) in
+    s v (ap (λ k. Some (k, v)) empty)

@@ -39,6 +39,8 @@ pub fn last_key_value<'a, K: TKey, V: TValue, T: RadixNode<K, V>>(
         IfOk result (λ found. MatchOption found ((k : List K) → f k ≡ None)
         (λ b. IsGreatestPair K.cmp f (b.0.items, b.1.now))) }
     ensures none { is_bare (T.tree tree.now) ≡ true → result ≡ Ok None }
+    ensures empty_key { ((k : List K) → IsSome (lookup K.cmp (T.tree tree.now) k) → k ≡ [])
+        → IsOk result }
 {
     canonical(tree);
     key_value_behind(&[], tree, End::Last)

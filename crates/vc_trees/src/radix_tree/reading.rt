@@ -198,8 +198,8 @@ pub trait AbstractRadixTree<K: TKey, V: TValue>: RadixNode<K, V> {
     /// The greatest key of the tree and its value, or none where the tree is empty.
     ///
     /// The key is a new list: it allocates once, for as many components as the key has, and not at
-    /// all where it has none. Fails only where that is refused. Makes no comparison, and goes down
-    /// to the key twice.
+    /// all where only the empty key is bound. Fails only where that is refused. Makes no comparison,
+    /// and goes down to the key twice.
     final fn last_key_value(&self) -> Result<Option<(Vec<K>, &V)>, AllocError>
         ensures pair { let pairs = walk (Self.tree self.now) in
             IfOk result (λ found. option_map (λ b. (b.0.items, b.1.now)) found
@@ -208,6 +208,8 @@ pub trait AbstractRadixTree<K: TKey, V: TValue>: RadixNode<K, V> {
             IfOk result (λ found. MatchOption found ((k : List K) → f k ≡ None)
             (λ b. IsGreatestPair K.cmp f (b.0.items, b.1.now))) }
         ensures none { IsTrue (is_bare (Self.tree self.now)) → result ≡ Ok None }
+        ensures empty_key { ((k : List K) → IsSome (lookup K.cmp (Self.tree self.now) k) → k ≡ [])
+            → IsOk result }
     {
         ends::last_key_value(self)
     }
