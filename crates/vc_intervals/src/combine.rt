@@ -122,7 +122,8 @@ fn make_room<T: MadeWith<A> + Drop, const N: usize, A: Allocator + Copy>(
     Ok(())
 }
 
-/// Appends clones of some boundaries.
+/// Appends clones of `boundaries`. At most `most` boundaries may still come, these included: where
+/// there is no room, it allocates once, for that many.
 #[inline]
 fn append<T: Clone + MadeWith<A>, const N: usize, A: Allocator + Copy>(
     built: &mut SmallVec<T, N, A>,

@@ -9,15 +9,16 @@ ghost use Rattle.vc_joins.specs.Question.{asks};
 use crate::answers::{AskInner, AskLeft, AskOuter, AskRight};
 use crate::question::{JoinKind, OuterJoinArg};
 
-/// What a join in place asks, with the value of the left map and references to the rest.
+/// The closure of a join in place. It gets the value of the left map by value, and the key and the
+/// right value by reference, and returns the value that stays, if any.
 pub trait Turn<K, V, W> {
-    /// Whether it may be asked with this argument.
+    /// Whether the closure may be called with this argument.
     ghost takes: { Self → OuterJoinArg K V W → Type 0 };
 
-    /// Whether it may give this answer.
+    /// Whether it may return this value.
     ghost may: { Self → OuterJoinArg K V W → Option V → Type 0 };
 
-    /// The answer at a key: the value that the result has there, if any.
+    /// The value that the result has at the key of `arg`, if any.
     fn turn(&self, arg: OuterJoinArg<&K, V, &W>) -> Option<V>
         requires { takes self.now (handed arg) }
         ensures { may self.now (handed arg.entry) result };

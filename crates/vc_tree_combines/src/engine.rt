@@ -208,7 +208,8 @@ fn begin_inside<
     })
 }
 
-/// Ends it: adds the trees after that one.
+/// Ends the combine that `begin_inside` began: adds the trees after the one that was found. `a` and
+/// `i` serve the contract alone.
 fn end_inside<
     K: TKey,
     V: TValue,
@@ -286,7 +287,8 @@ fn begin_within<
     })
 }
 
-/// Ends it: adds the trees after that one.
+/// Ends the combine that `begin_within` began: adds the trees after the one that was found. `b` and
+/// `j` serve the contract alone.
 fn end_within<
     K: TKey,
     V: TValue,

@@ -208,7 +208,7 @@ pub fn lessen_at<
     lessen_node(alloc, tree, i, value_at(that, j, front), right, from, op)
 }
 
-/// Does the same where the right prefix has ended at a place in the left one.
+/// Changes a tree in whose prefix the right one has ended, at a place.
 #[cycle(lessening)]
 fn lessen_inside<
     K: TKey,
@@ -235,8 +235,8 @@ fn lessen_inside<
     }
 }
 
-/// Does the same where the left prefix has ended, by the value of the right node and what is below
-/// it.
+/// Changes a tree whose prefix has ended, by the value of the right node and what is below it. `i`
+/// serves the contract alone.
 #[cycle(lessening)]
 fn lessen_node<
     K: TKey,

@@ -156,7 +156,7 @@ pub struct Stop<'b, B> {
     pub others: Trees<'b, B>,
 }
 
-/// A stop behind so many left trees, at the first of these right trees.
+/// A stop after so many left trees, at the first of these right trees.
 pub fn stop_at<'b, B>(passed: usize, rights: &'b [B]) -> Stop<'b, B>
     ensures passed { result.passed ≡ passed }
     ensures rights { rights.now
@@ -291,7 +291,8 @@ pub fn look_around<'b, K: TKey, V: TValue, W: TValue, T: RadixNode<K, V>, B: Rad
     }
 }
 
-/// The left tree that begins as the only one of the right side continues.
+/// The next pair where the right side is one tree: the left tree that begins as `tree` continues
+/// after `from` components. Where there is none, all left trees are passed.
 fn search_pair<'b, K: TKey, V: TValue, W: TValue, A: RadixNode<K, V>, B: RadixNode<K, W>>(
     lefts: &[A],
     tree: &'b B,

@@ -122,7 +122,7 @@ fn insert_behind<K: TKey, V: TValue, T: Build<K, V>>(
 }
 
 /// Binds the key that is the prefix followed by `rest`, which begins as the child at place `i`
-/// does.
+/// does. The node is put together again whatever the result is, so a refusal leaves its nodes.
 #[cycle(insertion)]
 fn insert_below<K: TKey, V: TValue, T: Build<K, V>>(
     alloc: Global,
@@ -151,7 +151,8 @@ fn insert_below<K: TKey, V: TValue, T: Build<K, V>>(
     done
 }
 
-/// Binds the key `rest` in the children. The child at place `i` begins as the key does.
+/// Binds the key `rest` in the children. The child at place `i` begins as the key does. This is
+/// apart from `insert_below`, which must not return before the node is put together again.
 #[cycle(insertion)]
 fn insert_into<K: TKey, V: TValue, T: Build<K, V>>(
     alloc: Global,

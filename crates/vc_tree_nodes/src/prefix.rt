@@ -17,9 +17,10 @@ pub struct Prefix<K> {
 /// Where the components of a prefix are stored.
 #[derive(Drop)]
 pub(crate) enum Cells<K> {
-    /// The components in the first `len` of these places. The others repeat one of the components.
+    /// The components in the first `len` of these places. The others are filled with one of the
+    /// components, and are not read.
     Short { len: u8, places: [K; 16] },
-    /// A list on the heap, or no component, since no place could be filled then.
+    /// A list on the heap. `None` is the empty prefix: it has no component to fill places with.
     Apart(Option<Box<Vec<K>>>),
 }
 

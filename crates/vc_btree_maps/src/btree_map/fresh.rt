@@ -37,8 +37,8 @@ pub fn put_answer<K: Ord + Clone + Drop, X: Drop>(
     }
 }
 
-/// Asks at a key of the left map, and inserts the answer. A missing value has no reference, so one
-/// lifetime is used for both.
+/// Asks at a key of the left map, and inserts the answer. The right value may be missing, and then
+/// gives no lifetime, so all references have that of the left value.
 fn put_left<'a, K: Ord + Clone + Drop, V, W: 'a, X: Drop, Q: Question<K, V, W, X>>(
     joined: &mut BTreeMap<K, X>,
     key: &'a K,
@@ -66,8 +66,8 @@ fn put_left<'a, K: Ord + Clone + Drop, V, W: 'a, X: Drop, Q: Question<K, V, W, X
     }
 }
 
-/// Asks at a key of the right map, and inserts the answer. A missing value has no reference, so one
-/// lifetime is used for both.
+/// Asks at a key of the right map, and inserts the answer. The left value may be missing, and then
+/// gives no lifetime, so all references have that of the right value.
 fn put_right<'a, K: Ord + Clone + Drop, V: 'a, W, X: Drop, Q: Question<K, V, W, X>>(
     joined: &mut BTreeMap<K, X>,
     key: &'a K,

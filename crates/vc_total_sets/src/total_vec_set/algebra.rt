@@ -137,8 +137,9 @@ impl<'a, 'b, T: Ord + Clone + MadeWith<A>, const N: usize, A: Allocator + Copy> 
 }
 
 impl<T: Ord, const N: usize, A: Allocator> TotalVecSet<T, N, A> {
-    /// Whether what is in this set is in the other, by their lists and flags: nothing is left of
-    /// this set without the other. It stops at the first element that decides, and takes no memory.
+    /// Whether what is in this set is in the other. A negated set is no subset of one that is not
+    /// negated, even where the other lists all values of the type. It stops at the first element
+    /// that decides, and takes no memory.
     pub fn is_subset(&self, that: &Self) -> bool
         ensures { IsTrue result ↔ IsTotalSubset T.cmp self.now that.now }
     {
@@ -150,16 +151,17 @@ impl<T: Ord, const N: usize, A: Allocator> TotalVecSet<T, N, A> {
         }
     }
 
-    /// Whether what is in the other set is in this one, by their lists and flags. It stops at the
-    /// first element that decides, and takes no memory.
+    /// Whether what is in the other set is in this one, as [`is_subset`](TotalVecSet::is_subset)
+    /// says it. It stops at the first element that decides, and takes no memory.
     pub fn is_superset(&self, that: &Self) -> bool
         ensures { IsTrue result ↔ IsTotalSubset T.cmp that.now self.now }
     {
         that.is_subset(self)
     }
 
-    /// Whether nothing is in both sets, by their lists and flags. It stops at the first element
-    /// that decides, and takes no memory.
+    /// Whether nothing is in both sets. Two negated sets are never disjoint, even where their lists
+    /// together have all values of the type. It stops at the first element that decides, and takes
+    /// no memory.
     pub fn is_disjoint(&self, that: &Self) -> bool
         ensures { IsTrue result ↔ IsTotalDisjoint T.cmp self.now that.now }
     {

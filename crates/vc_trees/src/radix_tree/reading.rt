@@ -402,9 +402,10 @@ pub trait AbstractRadixTree<K: TKey, V: TValue>: RadixNode<K, V> {
     }
 
     /// Folds the closure over the pairs of the tree whose keys start with the prefix, each with its
-    /// whole key. Goes down to the node below which these keys are, as `get` does. The part of each
-    /// key before the node's own prefix has the components of `prefix`. Where no key starts so, the
-    /// answer is `init`, and no memory is taken.
+    /// whole key, as [`fold`](AbstractRadixTree::fold) does, and fails where that does. Goes down to
+    /// the node below which these keys are, as `get` does. Up to the prefix of that node, a key is
+    /// spelled with the components of `prefix`. Where no key starts so, the answer is `init`, and no
+    /// memory is taken.
     final fn fold_prefix<B: Drop, E: From<AllocError>, F: Fn(B, &[K], &V) -> Result<B, E> + Drop>(
         &self,
         prefix: &[K],
