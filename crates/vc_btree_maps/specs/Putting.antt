@@ -1,17 +1,10 @@
 -- An answer that is put into the map of a join. No public clause cites these words.
-use Rattle.std.specs.Prelude.{◌≡◌, Bool, true, false, List, Option, Some, None, IsSomeAnd, MatchBool}
+use Rattle.std.specs.Prelude.{◌≡◌, List, Option, Some, None, IsSomeAnd, MatchBool}
 use Rattle.std.specs.BTreeMap.{is_at}
 use Rattle.std.specs.declared.cmp.Ordering.{Ordering}
 use Rattle.vc_joins.specs.declared.question.OuterJoinArg.{OuterJoinArg}
-use Rattle.vc_joins.specs.declared.question.JoinKind.{JoinKind}
-use Rattle.vc_joins.specs.declared.question.JoinKind.TheVariants.{Right, Inner}
 use Rattle.vc_joins.specs.Question.{shown_key}
 use Rattle.vc_joins.specs.Entries.{AscendsByKey, entry_at}
-
--- the kind of a join that asks at keys of the right map: at all of them, or at those of both
-abbrev pub right_kind : Bool → JoinKind
-right_kind true = Right
-right_kind false = Inner
 
 -- what is at a key where the answer is put: nothing, or the answer under a clone of the key
 abbrev pub IsPutAt : {K X : Type 0} → (K → K → Type 0) → K → Option X → Option (K × X) → Type 0

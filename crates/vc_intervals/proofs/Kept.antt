@@ -1,13 +1,12 @@
 -- What the events of two lists of boundaries keep: the boundaries of what f says of both.
 use Rattle.std.proofs.Common.{◌≡◌, Bool, true, false, not, List, [], ◌∷◌, Option, Some, None, inl, inr}
 use Rattle.std.proofs.Common.{refl, sym, ap, ◌∙◌, arith}
-use mathlib.Core.Bool.{true≢false}
 use Rattle.std.specs.List.{AllByRecursion}
 use Rattle.std.specs.List.Sorted.{IsStrictlySortedBy}
 use Rattle.std.specs.Cmp.{IsTotalOrder}
 use Rattle.std.specs.Ordering.{is_le, eq_by_cmp}
 use Rattle.std.specs.declared.cmp.Ordering.{Ordering}
-use Rattle.std.specs.declared.cmp.Ordering.TheVariants.{Less, Equal, Greater}
+use Rattle.std.specs.declared.cmp.Ordering.TheVariants.{Less, Equal}
 use Rattle.vc_merge.specs.Ascending.{Ascends, element_at}
 use Rattle.vc_merge.specs.Script.{Event, left_alone, right_alone, collision, lefts, rights, place, IsMatched, IsScript}
 use Rattle.vc_merge.proofs.ListLemmas.{each-weaker}
@@ -18,10 +17,6 @@ use Rattle.vc_intervals.specs.Boundaries.{Intervals, intervals, toggled}
 use Rattle.vc_intervals.specs.IntervalsOf.{Comes, IsIntervalsOf}
 use Rattle.vc_intervals.specs.Events.{put_if, kept}
 use Rattle.vc_intervals.proofs.Toggled.{toggled-not, toggled-above}
-
--- what is not at or below is above
-pub greater : (o : Ordering) → is_le o ≡ false → o ≡ Greater
-greater x e = grind arith
 
 module _ {X : Type 0} (cmp : X → X → Ordering) (total : IsTotalOrder cmp) (f : Bool → Bool → Bool) where
   -- the events ascend, and each collision is of two equal elements
@@ -134,7 +129,7 @@ module _ {X : Type 0} (cmp : X → X → Ordering) (total : IsTotalOrder cmp) (f
   at-both p q t u es x true e o rest = grind (arith, put-at, boundary-at)
   at-both p q t u es x false e o rest = at-above p q (collision t u ∷ es) x o.1 (e, all-above (collision t u) es x e o.0.0)
 
-  -- what is kept boundaries as f says of both
+  -- what is kept bounds what f says of both
   at : (p q : Bool) (es : List (Event X X)) (x : X) → InOrder es
       → toggled cmp (f p q) (kept f p q es) x ≡ f (toggled cmp p (lefts es) x) (toggled cmp q (rights es) x)
   unfolding IsStrictlySortedBy

@@ -1,11 +1,9 @@
 -- Membership by boundaries: of boundaries at or below a place, and of boundaries above it.
---     differs        two answers
 --     toggled-not, toggled-above, toggled-passed        of the answer negated, of boundaries above, and of boundaries at or below
 --     toggled-cut        by how many boundaries are at or below
 use Rattle.std.proofs.Common.{◌≡◌, ℕ, Bool, true, false, not, List, [], ◌∷◌, ◌++◌, length, take, drop}
 use Rattle.std.proofs.Common.{refl, sym, ap, ◌∙◌, arith}
 use Rattle.std.proofs.lemmas.List.{take-append-drop, length-take-le}
-use Rattle.std.specs.Bool.{beq}
 use Rattle.std.specs.List.{AllByRecursion}
 use Rattle.std.specs.Ordering.{is_le}
 use Rattle.std.specs.declared.cmp.Ordering.{Ordering}
@@ -14,16 +12,13 @@ use Rattle.vc_sets.specs.SetOf.{exactly_one}
 use Rattle.vc_intervals.specs.Boundaries.{toggled}
 use Rattle.vc_intervals.specs.Events.{odd}
 
-pub differs : (p q : Bool) → not (beq p q) ≡ exactly_one q p
-differs p q = grind arith
-
 module _ {X : Type 0} (cmp : X → X → Ordering) where
   -- the answer below toggled is the answer toggled
   pub toggled-not : (b : Bool) (ts : List X) (x : X) → toggled cmp (not b) ts x ≡ not (toggled cmp b ts x)
   toggled-not b [] x = refl
   toggled-not b (t ∷ ts) x = grind (arith, toggled-not b ts x)
 
-  -- boundaries above a place boundary nothing there
+  -- boundaries above a place change nothing there
   pub toggled-above : (b : Bool) (ts : List X) (x : X) → AllByRecursion (λ t. is_le (cmp t x) ≡ false) ts → toggled cmp b ts x ≡ b
   toggled-above b [] x p = refl
   toggled-above b (t ∷ ts) x p = grind (arith, toggled-above b ts x p.1)

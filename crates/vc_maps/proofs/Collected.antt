@@ -1,5 +1,5 @@
 -- What is collected from pairs in any order: one pair more. And a `Vec` whose items are collected.
-use Rattle.std.proofs.Common.{◌≡◌, ℕ, ◌<◌, Bool, cond, List, [], ◌∷◌, ◌++◌, Option, Some, length, reverse, refl, sym, ap, ◌∙◌, arith, length-append}
+use Rattle.std.proofs.Common.{◌≡◌, ℕ, ◌<◌, Bool, cond, List, [], ◌∷◌, ◌++◌, Option, Some, length, reverse, sym, ap, ◌∙◌, arith, length-append}
 use Rattle.std.specs.Iterator.{Yields}
 use Rattle.std.specs.Option.{option_or}
 use Rattle.std.specs.Ordering.{eq_by_cmp}
@@ -15,9 +15,6 @@ put-over : {X : Type 0} (b : Bool) (x : X) (o p : Option X) → cond b (Some x) 
 put-over b x o p = grind arith
 
 module _ {K V : Type 0} (cmp : K → K → Ordering) where
-  pub extended-none : (old : List (K × V)) → IsExtended cmp old [] old
-  extended-none old = record { values = λ k. refl; entries = λ k. refl }
-
   pub extended-next : (old xs now new : List (K × V)) (key : K) (value : V) → IsExtended cmp old xs now
       → ((k : K) → value_at cmp new k ≡ cond (eq_by_cmp cmp k key) (Some value) (value_at cmp now k))
       → ((k : K) → entry_at cmp new k ≡ cond (eq_by_cmp cmp k key) (Some (key, value)) (entry_at cmp now k))

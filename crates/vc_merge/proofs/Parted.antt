@@ -1,15 +1,10 @@
 -- A list with a gap after its elements, and others after the gap.
-use Rattle.std.proofs.Common.{◌≡◌, ℕ, ◌≤◌, Result, IsOk, is_err, Ok, Err, OnOk, Bool, false, List, ◌++◌, length, take}
+use Rattle.std.proofs.Common.{◌≡◌, ℕ, ◌≤◌, Result, is_err, Ok, Err, OnOk, Bool, false, List, ◌++◌, length, take}
 use Rattle.std.proofs.Common.{drop, sym, ◌∙◌, refl, drop_at, arith}
 use mathlib.Core.Bool.{true≢false}
 use Rattle.std.proofs.lemmas.List.{take-append-le}
 use Rattle.smallvec.specs.SmallVec.{SmallVec, with_items}
 use Rattle.smallvec.proofs.SmallVecLemmas.{items-with_items}
-
--- what holds where a call was not refused, of one that cannot be
-pub granted : {A E : Type 0} (result : Result A E) (P : Type 0) → IsOk result → OnOk result P → P
-granted (Ok a) P ok h = h
-granted (Err e) P ok h = absurd (true≢false (sym ok))
 
 pub not-refused : {A E : Type 0} (result : Result A E) (P : Type 0) (refused : Bool) → refused ≡ is_err result
     → refused ≡ false → OnOk result P → P

@@ -1,6 +1,6 @@
 -- What is collected from items in any order.
 --     members-kept        the members follow from what is kept
---     extended-none, extended-next        no item, and one item more
+--     extended-next        one item more
 --     given-more        an iterator over a list that gave more than n items
 use Rattle.std.proofs.Common.{◌≡◌, ℕ, ◌<◌, ◌≤◌, ◌||◌, Bool, cond, List, [], ◌∷◌, ◌++◌, Option, Some, is_some, Result, Ok, Err, IsOk, OnErr, length, reverse}
 use Rattle.std.proofs.Common.{refl, sym, ap, ◌∙◌, arith, length-append}
@@ -22,9 +22,6 @@ module _ {X : Type 0} (cmp : X → X → Ordering) where
   members-kept xs s x e =
       member-is_some cmp s x ∙ ap is_some e ∙ sym (member-is_some cmp (reverse xs) x)
       ∙ sym (list_any-IsPermutation (λ y. eq_by_cmp cmp y x) xs (reverse xs) (IsPermutation-reverse xs))
-
-  pub extended-none : (old : List X) → IsExtended cmp old [] old
-  extended-none old = record { members = λ x. refl; kept = λ x. refl }
 
   member-put : (b c : Bool) (xs : List X) (x z : X) → eq_by_cmp cmp x z ≡ b → (b || (member cmp xs z || c)) ≡ (member cmp (xs ++ x ∷ []) z || c)
   member-put b c xs x z e = grind (arith, list_any-append (λ y. eq_by_cmp cmp y z) xs (x ∷ []))

@@ -4,7 +4,7 @@ use Rattle.std.proofs.Common.{take, drop, get_or, Option, Some, None, is_some, r
 use Rattle.std.specs.List.{AllByRecursion}
 use Rattle.std.specs.List.Sorted.{IsStrictlySortedBy}
 use Rattle.std.specs.Cmp.{IsTotalOrder, alike_right}
-use Rattle.std.specs.Ordering.{eq_by_cmp, is_eq}
+use Rattle.std.specs.Ordering.{eq_by_cmp}
 use Rattle.std.specs.declared.cmp.Ordering.{Ordering}
 use Rattle.std.specs.declared.cmp.Ordering.TheVariants.{Less, Equal}
 use Rattle.vc_merge.specs.Ascending.{Ascends, member, element_at}
@@ -59,11 +59,6 @@ module _ {X : Type 0} (cmp : X → X → Ordering) where
         ∙ later-by (eq_by_cmp cmp x z) x y z (element_at cmp ys z) below refl
 
     -- ---- no equal element stands there
-
-    -- the same element stands at equal ones
-    element_at-alike : (xs : List X) (x z : X) → cmp x z ≡ Equal → element_at cmp xs x ≡ element_at cmp xs z
-    element_at-alike [] x z e = refl
-    element_at-alike (y ∷ ys) x z e = (λ i. cond (is_eq (alike_right total x z y e i)) (Some y) (element_at-alike ys x z e i))
 
     -- nothing stands at what is equal to an element that is not there
     nothing-by : (b : Bool) (xs : List X) (x z : X) → element_at cmp xs x ≡ None → eq_by_cmp cmp x z ≡ b

@@ -1,5 +1,5 @@
 -- What a set operation keeps at each event of a script. No public clause cites these words.
-use Rattle.std.specs.Prelude.{Bool, true, false, not, ◌||◌, List, ◌⊎◌}
+use Rattle.std.specs.Prelude.{Bool, true, false, List, ◌⊎◌}
 use Rattle.std.proofs.Common.{inl, inr}
 use Rattle.std.specs.Cmp.{IsTotalOrder}
 use Rattle.std.specs.declared.cmp.Ordering.{Ordering}
@@ -25,11 +25,6 @@ keeps left right both true true = both
 keeps left right both true false = left
 keeps left right both false true = right
 keeps left right both false false = false
-
--- what an operation that builds a new set keeps: what is only on the left too, unless it keeps only
--- common elements
-abbrev pub keeps_fresh : Bool → Bool → Bool → Bool → Bool
-keeps_fresh right both = keeps (right || not both) right both
 
 -- what is kept at an event: what comes from its left element, where it has one, and otherwise from
 -- its right one

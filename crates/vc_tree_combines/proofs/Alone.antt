@@ -1,7 +1,6 @@
 -- What is left of a tree that one side alone has, where that is nothing; values that are copied; and calls of the closures of
 -- combines.
 --     inner-answer, outer-answer, left-answer        what a call answers
---     made-none        the combine of whole trees, of which no key is left
 use Rattle.std.proofs.Common.{◌≡◌, ℕ, ◌++◌, List, Option, None, Some, Result, Ok, Err, IfOk, refl, sym, arith}
 use Rattle.std.proofs.Common.{take, drop}
 use Rattle.std.specs.Cmp.{IsTotalOrder}
@@ -11,7 +10,7 @@ use denote.Ref.{Bor}
 use denote.Param.Members.{Shared}
 use Rattle.vc_tree_model.specs.Asking.{MayAnswer, MayAnswerAt}
 use Rattle.vc_tree_model.specs.Combine.{IsInnerAt, IsLeftAt, IsOuterAt, IsUnionAt, IsIntersectionAt, IsDifferenceAt}
-use Rattle.vc_tree_model.specs.Tree.{Tree, no_tree, node, shortened}
+use Rattle.vc_tree_model.specs.Tree.{Tree, node, shortened}
 use Rattle.vc_tree_model.specs.Map.{node_lookup, lookup, lookup_in}
 use Rattle.vc_tree_model.specs.Value.{IsKept, Copies, itself, cloned}
 use Rattle.std.proofs.lemmas.List.{take-append-drop}
@@ -19,7 +18,6 @@ use Rattle.vc_tree_model.specs.Shortened.{IsShortened}
 use Rattle.vc_tree_model.specs.Same.{IsAlike}
 use Rattle.vc_tree_model.proofs.AlikeLemmas.{tree-alike_lookup}
 use Rattle.vc_tree_model.proofs.KeyLemmas.{then_behind, behind-append, behind-itself}
-use Rattle.vc_tree_facing.specs.Made.{IsBothMade}
 
 -- a clone is a copy
 kept_copies : {V : Type 0} (is_clone : V → V → Type 0) (v z : Option V) → IsKept is_clone v z → IsKept (Copies is_clone) v z
@@ -103,12 +101,3 @@ pub left-answer : {V W F E U : Type 0} (g : Shared F (Bor V × (Option (Bor W) �
     (r : Result (Option U) E) (w : Option (Bor W)) {p : Bor V} {v : Option (Bor V)} → v ≡ Some p → g.post f (p, (w, tt)) r
     → IfOk r (IsLeftAt (λ v w z. MayAnswerAt g f v w (Ok z)) (option_copied v) (option_copied w))
 left-answer g f r w a h = grind (arith, may-answer_at)
-
--- ---- whole trees
-
-module _ {K V W U : Type 0} (cmp : K → K → Ordering) (R : Option V → Option W → Option U → Type 0) (t : Tree K V)
-    (u : Tree K W) where
-  -- no key is left
-  pub made-none : (o : Option (Tree K U)) (m : Tree K U) → o ≡ None → m ≡ no_tree
-      → IsBothMade cmp R (shortened 0 t) (shortened 0 u) o → (k : List K) → R (lookup cmp t k) (lookup cmp u k) (lookup cmp m k)
-  made-none o m e b w k = grind arith

@@ -1,8 +1,7 @@
 -- A list into which comers are put at their places.
 --     woven-run        more trees behind the last comer
 --     woven-comer        a comer behind all trees
---     woven-step        the trees before a comer, and that one
-use Rattle.std.proofs.Common.{◌≡◌, ℕ, ◌+◌, ◌-◌, ◌≤◌, [], ◌∷◌, ◌++◌, List, refl, sym, ◌∙◌, take, drop, length, append_assoc}
+use Rattle.std.proofs.Common.{◌≡◌, ℕ, ◌+◌, ◌-◌, ◌≤◌, [], ◌∷◌, ◌++◌, List, refl, sym, take, drop, length, append_assoc}
 use Rattle.std.proofs.Common.{arith, length-drop}
 use Rattle.std.proofs.lemmas.List.{take-append-le, drop-append-le, take_all}
 use Rattle.std.proofs.Math.ListN.{drop_of_length-le}
@@ -42,11 +41,3 @@ module _ {T : Type 0} where
       let k = a.0 in
       let more = woven-comer (n + (c.place - n)) (drop (c.place - n) ks) t cs p (rest-long n ks c.place p e k) a.1 in
       rw more (sym (append_assoc (take (c.place - n) ks) (c.tree ∷ woven (n + (c.place - n)) (drop (c.place - n) ks) cs) (t ∷ [])))
-
-  -- the trees before a comer, and that one, are put behind a list
-  pub woven-step : (list rest : List T) (n : ℕ) (c : Comer T) (cs : List (Comer T))
-      → ((list ++ take (c.place - n) rest) ++ (c.tree ∷ [])) ++ woven (n + (c.place - n)) (drop (c.place - n) rest) cs
-      ≡ list ++ woven n rest (c ∷ cs)
-  woven-step list rest n c cs =
-      append_assoc (list ++ take (c.place - n) rest) (c.tree ∷ []) (woven (n + (c.place - n)) (drop (c.place - n) rest) cs)
-      ∙ append_assoc list (take (c.place - n) rest) (c.tree ∷ woven (n + (c.place - n)) (drop (c.place - n) rest) cs)

@@ -3,14 +3,12 @@
 --     front-asked, made-front        what holds of two trees, holds where their prefixes agree, and what is made there
 --     combine-started        the state before the first event
 --     values-asked        what may be asked of the values at the fronts
---     made-children        the trees that were made are canonical children
---     combined        the node of these trees is what the combine says of both
-use Rattle.std.proofs.Common.{◌≡◌, ℕ, [], ◌∷◌, ◌++◌, List, Option, None, Some, sym, take, drop, slice_get, arith}
+use Rattle.std.proofs.Common.{◌≡◌, ℕ, [], ◌∷◌, ◌++◌, List, Option, None, Some, sym, take, drop, arith}
 use Rattle.std.proofs.lemmas.List.{take-append-drop}
 use Rattle.std.specs.Cmp.{IsTotalOrder}
 use Rattle.std.specs.Prelude.{IsTrue}
 use Rattle.std.specs.declared.cmp.Ordering.{Ordering}
-use Rattle.vc_tree_model.specs.Tree.{Tree, Forest, forest}
+use Rattle.vc_tree_model.specs.Tree.{Tree, Forest}
 use Rattle.vc_tree_model.specs.Map.{lookup, lookup_in}
 use Rattle.vc_tree_model.specs.Canonical.{AreChildren, IsCanonical}
 use Rattle.vc_tree_model.specs.Child.{Begins, BeginsWith, solid_child, value_at, children_at}
@@ -21,8 +19,7 @@ use Rattle.vc_tree_model.specs.Look.{Look, values}
 use Rattle.vc_tree_facing.specs.Facing.{shortened_in, Parts, IsOpened, IsFaced}
 use Rattle.vc_tree_facing.specs.Made.{IsBothMadeBy}
 use Rattle.vc_tree_facing.specs.Doing.{IsDoing}
-use Rattle.vc_tree_facing.specs.Sides.{by_component, side_next}
-use Rattle.vc_tree_facing.proofs.Next.{doing-start, all-done}
+use Rattle.vc_tree_facing.proofs.Next.{doing-start}
 
 -- what stands below a place is canonical children
 pub below-children : {K T V : Type 0} (cmp : K → K → Ordering) {tree : T → Tree K V} {t : Tree K V} {xs : List T} {i : ℕ} (n : ℕ)
@@ -79,21 +76,3 @@ module _ {K V W A B : Type 0} {cmp : K → K → Ordering} {ta : A → Tree K V}
     combine-started R asks an P lead h ct cu =
         doing-start o an (below-children cmp n ct f.left) (below-children cmp n cu f.right)
         (rw (f.left.children, f.right.children) (λ x q. lead _ _ (front-asked o l t u n f.same P h (x ∷ q))))
-
-  module _ {U O : Type 0} {l : Look cmp W O} {R : Option V → O → Option U → Type 0} {asks : Option V → O → Type 0} {ls : List A}
-      {rs : List B} {made : List (Tree K U)} (d : IsDoing cmp ta tb i j l R asks xs ys ls rs made)
-      (end : side_next (by_component ta tb i j cmp) (slice_get ls 0) (slice_get rs 0) ≡ None) (none : R None l.none None) where
-    -- the trees that were made are canonical children
-    pub made-children : AreChildren cmp (forest made)
-    made-children = (all-done d end none).0
-
-    -- the node of these trees is what the combine says of both, by what it says of what is below
-    pub combined : (S : Option V → O → Option U → Type 0) → S None l.none None
-        → ((v : Option V) (w : O) (z : Option U) → R v w z → S v (l.under (value_at u (drop n u.prefix)) w) z)
-        → (v : Option U) {front : List K} {out : Option (Tree K U)}
-        → S (value_at t (drop n t.prefix)) (l.at (value_at u (drop n u.prefix))) v → front ≡ take n t.prefix
-        → out ≡ solid_child front v (forest made) → IsBothMadeBy cmp l S t u out
-    combined S nothing lead v root e g =
-        let below = rw (f.left.children, f.right.children) at (all-done d end none).1 in
-        rw (g, e) (made-front d.total l t u n f.same S nothing f.parts v (forest made) made-children root
-        (λ x q. lead _ _ _ (below x q)))

@@ -1,5 +1,5 @@
 -- The events of two lists of trees, by the components at a place of their prefixes. No public clause cites these words.
-use Rattle.std.specs.Prelude.{ℕ, ◌⊎◌, ◌<◌, List, length, Option, Some, None, slice_get}
+use Rattle.std.specs.Prelude.{ℕ, ◌⊎◌, Option, Some, None, slice_get}
 use Rattle.std.proofs.Common.{inl, inr}
 use Rattle.std.proofs.lemmas.Cmp.{on_total}
 use Rattle.std.specs.Cmp.{IsTotalOrder}
@@ -36,9 +36,3 @@ side_next order None None = None
 side_next order None (Some y) = Some Right
 side_next order (Some x) None = Some Left
 side_next order (Some x) (Some y) = Some (lower_side (order (inr y) (inl x)))
-
--- the trees of a side are there
-abbrev pub AreThere : {A B : Type 0} → EventSide → List A → List B → Type 0
-AreThere Left ls rs = 0 < length ls
-AreThere Right ls rs = 0 < length rs
-AreThere Both ls rs = (0 < length ls) × (0 < length rs)

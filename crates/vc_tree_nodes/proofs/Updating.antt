@@ -71,11 +71,6 @@ module _ {K V : Type 0} (cmp : K → K → Ordering) (keeps : V → V → Type 0
   lookup-leaf (y ∷ key) (z ∷ k) value = grind (arith, lookup-leaf key k value)
   lookup-leaf key k value = grind arith
 
-  -- what equals a key that begins above a tree, the tree does not bind
-  misses : IsTotalOrder cmp → (z : K) (p : List K) (v : Option V) (f : Forest K V) (y : K) (q k : List K)
-      → cmp z y ≡ Less → same_key cmp (y ∷ q) k ≡ true → lookup cmp (node (z ∷ p) v f) k ≡ None
-  misses o z p v f y q k l s = grind arith
-
   module _ (o : IsTotalOrder cmp) (r : (v : V) → keeps v v) where
     -- a leaf before the others
     insert-first : (y : K) (q : List K) (value : V) (f : Forest K V)

@@ -1,6 +1,6 @@
 -- Where a path of places leads, and what a step from there does to the pairs that are left.
 --     Leads        the places before a depth lead to a node
---     leads-on, stops, ends        one node deeper, where no child is open, and where the path ends
+--     leads-on, stops        one node deeper, and where no child is open
 --     opened-rows, opened-work        the row of a node that was opened
 --     started-left, started-work        what is left behind the root
 --     left-step, entered-step        a step out of the node that a path leads to, and a step to a child of it
@@ -10,7 +10,7 @@ use Rattle.std.proofs.Common.{get_or, map, Option, None, Some, refl, sym, ap, �
 use Rattle.std.proofs.Common.{subst, arith, min, ◌==◌, true≢false, false}
 use Rattle.std.proofs.Math.Nat.{suc-min-suc}
 use Rattle.std.proofs.Math.Seq.{take-length}
-use Rattle.std.proofs.lemmas.List.{take_more, take-append-drop, drop_all}
+use Rattle.std.proofs.lemmas.List.{take_more, take-append-drop}
 use Rattle.std.specs.Prelude.{IfSome, MatchOption}
 use Rattle.std.specs.Borrow.{Bor}
 use Rattle.vc_tree_model.specs.Tree.{Tree, Forest, bare, grow, node, nodes, forest_nodes}
@@ -73,10 +73,6 @@ module _ {K V : Type 0} where
       → rows_at t (place ∷ path) ≡ row_of_place t place ∷ []
   rows-closed t place path e = rw (e, rows_at)
 
-  -- and below the last open one
-  rows-last : (t : Tree K V) (place : OpenNode) → rows_at t (place ∷ []) ≡ row_of_place t place ∷ []
-  rows-last t place = grind arith
-
   -- one node deeper
   pub leads-on : (root : Tree K V) (path : List OpenNode) (t c : Tree K V) (d : ℕ) (x : OpenNode) → Leads root path t d
       → d + 1 < length path → entered (get_or path d x).entered t.children ≡ Some c → Leads root path c (d + 1)
@@ -106,18 +102,6 @@ module _ {K V : Type 0} where
     here = here-at root path t d place l.within en l.above
         (ap (rows_at root) (sym (parts path d place l.within en)) ∙ l.rows (place ∷ drop (d + 1) path)
         ∙ ap (λ xs. xs ++ l.above) (rows-closed t place (drop (d + 1) path) e));
-  }
-
-  -- where the path ends
-  pub ends : (root : Tree K V) (path : List OpenNode) (t : Tree K V) (d : ℕ) → Leads root path t d → length path ≤ d + 1
-      → IsReached root path t d
-  ends root path t d l h = record {
-    above = l.above;
-    within = l.within;
-    rows = l.rows;
-    here = λ place en.
-        ap (rows_at root) (sym (parts path d place l.within en) ∙ ap (λ xs. take d path ++ place ∷ xs) (drop_all (d + 1) path h))
-        ∙ l.rows (place ∷ []) ∙ ap (λ xs. xs ++ l.above) (rows-last t place);
   }
 
   -- an opened node is left as its row would be

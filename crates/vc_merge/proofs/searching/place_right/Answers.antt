@@ -1,6 +1,6 @@
 use Rattle.std.proofs.Common.{◌≡◌, ◌-◌, length, ap, refl, ◌∙◌, length-drop, arith}
 use Rattle.std.proofs.lemmas.Result.{err_from_is_err_and}
-use Rattle.vc_merge.proofs.Chains.{goes_on-next, goes_on-after, goes_on-true, next-weaker, goes_on-weaker, then_next-weaker, if_true-weaker}
+use Rattle.vc_merge.proofs.Chains.{goes_on-next, goes_on-after, goes_on-true, next-weaker, then_next-weaker, if_true-weaker}
 use Rattle.vc_merge.proofs.SearchedRuns.{drop-shorter}
 use Rattle.vc_merge.proofs.Strides.{place-paid}
 use Rattle.vc_merge.proofs.searching.place_right.Goals as goal
