@@ -1,2 +1,3 @@
 mod Chaining
+mod Noting
 mod Obeying

@@ -14,9 +14,11 @@
 //! ```
 
 mod reading;
+mod retaining;
 mod writing;
 
 pub use reading::AbstractRadixTree;
+pub use retaining::KeyTrees;
 pub use vc_tree_nodes::plain::RadixTree;
 pub use vc_tree_nodes::reading::{RadixNode, TKey, TValue};
 pub use vc_tree_nodes::shared::ArcRadixTree;

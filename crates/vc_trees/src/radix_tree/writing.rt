@@ -1,7 +1,7 @@
 //! The trait through which the two flavours are made and changed.
 
 ghost use Rattle.std.specs.Prelude.{◌≡◌, ◌≤◌, List, [], None, Ok, Some, length, map, IfOk, IsOk};
-ghost use Rattle.std.specs.Prelude.{MatchOption, OnErr, OnOk};
+ghost use Rattle.std.specs.Prelude.{◌⊎◌, MatchOption, OnErr, OnOk};
 ghost use Rattle.std.specs.Iterator.{IsFinite};
 ghost use Rattle.std.specs.Iterator.Runs.{WholeRun};
 ghost use Rattle.vc_tree_model.specs.Tree.{made, no_tree};
@@ -20,8 +20,10 @@ ghost use Rattle.vc_tree_model.specs.Under.{prefixed, under};
 ghost use Rattle.vc_tree_removal.specs.Changing.{CanChange, CanWrite, MayWrite, IsChanged};
 ghost use Rattle.vc_tree_removal.specs.Without.{AllBegin, IsWithout, IsWithoutBelow};
 ghost use Rattle.vc_tree_edits.specs.Editing.{MayLeave, CanLeave, KeptThen, CanMeet, OrStays};
+ghost use Rattle.vc_trees.specs.RetainedPairs.{CanTell, IsRetainedAsTold, MayTell};
 
 use crate::radix_tree::reading::AbstractRadixTree;
+use crate::radix_tree::retaining::{self, KeyTrees};
 use std::alloc::{AllocError, Global};
 use vc_tree_combines::combines;
 use vc_tree_edits::{combining, prepending};
@@ -267,6 +269,37 @@ pub trait AbstractRadixTreeMut<K: TKey, V: TValue>: CloneTree<K, V> + AbstractRa
     {
         let alloc = self.allocator();
         *self = Self::empty(alloc);
+    }
+
+    /// Keeps the pairs at which the closure answers true, and removes the others. The closure is
+    /// asked once at each pair, by ascending keys, and is lent key and value. Values that stay do
+    /// so in place.
+    ///
+    /// A walk inserts the keys that go into a tree of keys, and a difference removes them. It takes
+    /// memory for the longest key, for that tree, and as the difference does. Where no key goes,
+    /// nothing is written or copied.
+    ///
+    /// Fails only where memory is refused, or the clone of a value in shared children that are
+    /// copied. If that was in the walk, the tree is as it was; if it was in the difference, the tree
+    /// is empty.
+    ///
+    /// Code that is generic in the flavour asks for [`KeyTrees`], which both flavours have.
+    ///
+    /// ```
+    /// // What has expired goes.
+    /// sessions.retain(|_, expires| now < *expires)?;
+    /// ```
+    final fn retain<F: Fn(&[K], &V) -> bool>(&mut self, keep: F) -> Result<(), AllocError>
+    where
+        Self: KeyTrees<K>,
+        requires { (k : List K) → CanTell F.Fn keep k (lookup K.cmp (Self.tree self.old) k) }
+        ensures ok { OnOk result (IsRetainedAsTold K.cmp (MayTell F.Fn keep) Self.keeps
+            (Self.tree self.old) (Self.tree self.new)) }
+        ensures err { OnErr result
+            ((Self.tree self.new ≡ Self.tree self.old) ⊎ (Self.tree self.new ≡ no_tree)) }
+        ensures canonical { IsCanonical K.cmp (Self.tree self.new) }
+    {
+        retaining::retain::<K, V, Self, Self::Keys, F>(self, &keep)
     }
 
     /// Removes all keys that begin with `prefix`, with their values. The other keys keep theirs.
