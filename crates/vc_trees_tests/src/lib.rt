@@ -33,6 +33,8 @@ mod outcomes;
 #[cfg(test)]
 mod questions;
 #[cfg(test)]
+mod retained;
+#[cfg(test)]
 mod tests;
 #[cfg(test)]
 mod two_trees;
