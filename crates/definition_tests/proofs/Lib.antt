@@ -14,5 +14,6 @@ pub mod Trees
 pub mod Combines
 pub mod Walks
 pub mod Edits
+pub mod Told
 pub mod Filters
 pub mod Commands

@@ -102,4 +102,5 @@ pub use Rattle.vc_tree_walks.specs.PrefixesLeft
 pub use Rattle.vc_tree_walks.specs.RangeLeft
 pub use Rattle.vc_tree_walks.specs.ValuesLeft
 pub use Rattle.vc_trees.specs.Commanded
+pub use Rattle.vc_trees.specs.RetainedPairs
 pub use Rattle.vc_trees.specs.declared.commands.TreeCommand

@@ -82,3 +82,4 @@ pub use Rattle.vc_tree_walks.specs.PrefixesLeft.{prefixes_left, prefixes_work}
 pub use Rattle.vc_tree_walks.specs.RangeLeft.{range_left, range_work}
 pub use Rattle.vc_tree_walks.specs.ValuesLeft.{values_left, values_work}
 pub use Rattle.vc_trees.specs.Commanded.{command_of}
+pub use Rattle.vc_trees.specs.RetainedPairs.{CanTell, IsRetainedAsTold, IsTold, MayTell, StaysAsTold}

@@ -75,8 +75,8 @@ pub mod btree_map {
 pub mod radix_tree {
     pub use vc_trees::commands::{TreeCommand, run};
     pub use vc_trees::radix_tree::{
-        AbstractRadixTree, AbstractRadixTreeMut, ArcRadixTree, Iter, IterKey, ObjAndIter, Prefixes,
-        RadixNode, RadixTree, Range, TKey, TValue, Values,
+        AbstractRadixTree, AbstractRadixTreeMut, ArcRadixTree, Iter, IterKey, KeyTrees, ObjAndIter,
+        Prefixes, RadixNode, RadixTree, Range, TKey, TValue, Values,
     };
 }
 
@@ -116,7 +116,9 @@ pub mod laws {
 pub mod traits {
     pub use super::btree_map::{AbstractBTreeMap, AbstractBTreeMapIter, InPlaceRelationalOps};
     pub use super::iterators::{SortedByItem, SortedByKey};
-    pub use super::radix_tree::{AbstractRadixTree, AbstractRadixTreeMut, RadixNode, TKey, TValue};
+    pub use super::radix_tree::{
+        AbstractRadixTree, AbstractRadixTreeMut, KeyTrees, RadixNode, TKey, TValue,
+    };
     pub use super::vec_map::AbstractVecMap;
     pub use super::vec_set::{AbstractVecSet, Borrowed, ClonesEqual};
 }

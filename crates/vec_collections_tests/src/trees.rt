@@ -1,8 +1,9 @@
 //! Radix trees, as a user writes them: each call at both flavours, generic code, and a tree of this
 //! crate's own with children.
 ghost use Rattle.std.specs.Prelude.{◌≡◌, ◌<◌, ℕ, List, [], ◌∷◌, Ok, Some, None, false, length, map, IfOk, OnOk, OnErr};
+ghost use Rattle.std.specs.Prelude.{cond, nat_lt};
 ghost use Rattle.std.specs.Ordering.{nat_cmp};
-ghost use Rattle.std.specs.Option.{option_copied};
+ghost use Rattle.std.specs.Option.{option_and_then, option_copied};
 ghost use Rattle.vec_collections.specs.Commanded.{command_of};
 ghost use Rattle.vec_collections.specs.Machine.{Run};
 ghost use Rattle.vec_collections.specs.Map.{lookup, or_else, HaveEqualMaps, IsInserted, IsEqualMap};
@@ -72,6 +73,18 @@ pub fn split_zone(ports: &mut Ports, zone: &[u8]) -> Result<Ports, AllocError>
     ensures err { OnErr result (HaveEqualMaps nat_cmp (λ x y. x ≡ y) ports.old ports.new) }
 {
     ports.split_below(zone)
+}
+
+/// When sessions end, by their names.
+pub type Sessions = RadixTree<u8, u64>;
+
+/// Removes the sessions that have ended.
+pub fn drop_ended(sessions: &mut Sessions, now: u64) -> Result<(), AllocError>
+    ensures { OnOk result ((name : List ℕ) → lookup nat_cmp sessions.new name
+        ≡ option_and_then (λ end. cond (nat_lt now end) (Some end) None)
+        (lookup nat_cmp sessions.old name)) }
+{
+    sessions.retain(|_, end| now < *end)
 }
 
 /// Changes the ports, one change after another, and answers which changes succeeded.

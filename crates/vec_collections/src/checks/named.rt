@@ -6,6 +6,7 @@ ghost use Rattle.std.specs.Map.{keys_of, values_of};
 ghost use Rattle.std.specs.Option.{option_copied};
 ghost use Rattle.std.specs.Ordering.{nat_cmp};
 ghost use Rattle.std.specs.Prelude.{◌≡◌, ◌↔◌, ◌&&◌, Ok, IfOk, IsTrue, length, map};
+ghost use Rattle.std.specs.Prelude.{OnOk};
 ghost use Rattle.vec_collections.specs.Answers.{MayAnswer, MayAnswerInner, MayAnswerLeft, MayAnswerRight, seen};
 ghost use Rattle.vec_collections.specs.Ascending.{Ascends, member};
 ghost use Rattle.vec_collections.specs.Borrowed.{member_by};
@@ -19,6 +20,7 @@ ghost use Rattle.vec_collections.specs.Keeping.{MayLeaveShared};
 ghost use Rattle.vec_collections.specs.Machine.{Run};
 ghost use Rattle.vec_collections.specs.Map.{lookup};
 ghost use Rattle.vec_collections.specs.Question.{left_spelling};
+ghost use Rattle.vec_collections.specs.RetainedPairs.{IsRetainedAsTold, MayTell};
 ghost use Rattle.vec_collections.specs.Script.{BothAscend};
 ghost use Rattle.vec_collections.specs.Value.{Copies};
 ghost use Rattle.vec_collections.specs.Showing.{ShowsBothWays, ShowsItems};
@@ -31,7 +33,7 @@ use crate::iterators::{
 };
 use crate::laws::{AskInner, AskLeft, AskOuter, AskRight, Question};
 use crate::merge::{Count, MergeOperation, MergeState, merge};
-use crate::radix_tree::{RadixTree, TreeCommand, run};
+use crate::radix_tree::{AbstractRadixTreeMut, RadixTree, TreeCommand, run};
 use crate::{
     AbstractVecMap, AbstractVecSet, Borrowed, ClonesEqual, JoinKind, OuterJoinArg, VecMap1,
     VecSet2, inner_join, left_join, outer_join, right_join,
@@ -80,6 +82,18 @@ pub fn obey_all(
         (map (command_of (λ t. t)) commands.items) accepted.new (lookup nat_cmp tree.new) }
 {
     run(tree, commands, accepted);
+}
+
+/// Keeps the pairs of a tree at which the closure answers true.
+pub fn keep_pairs<F: Fn(&[u8], &u32) -> bool + Drop>(
+    tree: &mut RadixTree<u8, u32>,
+    keep: F,
+) -> Result<(), AllocError>
+    requires { (k : _) (v : _) → F.pre keep k v }
+    ensures { OnOk result (IsRetainedAsTold nat_cmp (MayTell F.Fn keep) (λ x y. x ≡ y) tree.old
+        tree.new) }
+{
+    tree.retain(keep)
 }
 
 type Numbers = VecMap1<u32, u32>;
