@@ -211,8 +211,8 @@ impl<K: Ord + Clone + Drop, V: Eq + Clone + Drop, const N: usize, A: Allocator +
 where
     (K, V): MadeWith<A>,
 {
-    /// A clone of each pair and of the default. Clones of values have to equal their sources, so that
-    /// no value of the copy equals its default.
+    /// A clone of each pair and of the default. Clones of values have to equal their sources, so
+    /// that no value of the copy equals its default.
     ///
     /// Takes memory where there are more than `N` pairs, and as the clones do; on refusal it drops
     /// what was copied.

@@ -556,8 +556,8 @@ fn change_beside<
     }
 }
 
-/// Changes the trees of a list where they are, pair by pair. Once all are changed, it puts the right
-/// trees that come in between them.
+/// Changes the trees of a list where they are, pair by pair. Once all are changed, it puts the
+/// right trees that come in between them.
 #[cycle(changing)]
 fn change_list<
     K: TKey,

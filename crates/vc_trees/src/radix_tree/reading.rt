@@ -198,8 +198,8 @@ pub trait AbstractRadixTree<K: TKey, V: TValue>: RadixNode<K, V> {
     /// The greatest key of the tree and its value, or none where the tree is empty.
     ///
     /// The key is a new list: it allocates once, for as many components as the key has, and not at
-    /// all where only the empty key is bound. Fails only where that is refused. Makes no comparison,
-    /// and goes down to the key twice.
+    /// all where only the empty key is bound. Fails only where that is refused. Makes no
+    /// comparison, and goes down to the key twice.
     final fn last_key_value(&self) -> Result<Option<(Vec<K>, &V)>, AllocError>
         ensures pair { let pairs = walk (Self.tree self.now) in
             IfOk result (λ found. option_map (λ b. (b.0.items, b.1.now)) found
@@ -402,10 +402,10 @@ pub trait AbstractRadixTree<K: TKey, V: TValue>: RadixNode<K, V> {
     }
 
     /// Folds the closure over the pairs of the tree whose keys start with the prefix, each with its
-    /// whole key, as [`fold`](AbstractRadixTree::fold) does, and fails where that does. Goes down to
-    /// the node below which these keys are, as `get` does. Up to the prefix of that node, a key is
-    /// spelled with the components of `prefix`. Where no key starts so, the answer is `init`, and no
-    /// memory is taken.
+    /// whole key, as [`fold`](AbstractRadixTree::fold) does, and fails where that does. Goes down
+    /// to the node below which these keys are, as `get` does. Up to the prefix of that node, a key
+    /// is spelled with the components of `prefix`. Where no key starts so, the answer is `init`,
+    /// and no memory is taken.
     final fn fold_prefix<B: Drop, E: From<AllocError>, F: Fn(B, &[K], &V) -> Result<B, E> + Drop>(
         &self,
         prefix: &[K],

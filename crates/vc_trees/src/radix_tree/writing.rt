@@ -280,8 +280,8 @@ pub trait AbstractRadixTreeMut<K: TKey, V: TValue>: CloneTree<K, V> + AbstractRa
     /// nothing is written or copied.
     ///
     /// Fails only where memory is refused, or the clone of a value in shared children that are
-    /// copied. If that was in the walk, the tree is as it was; if it was in the difference, the tree
-    /// is empty.
+    /// copied. If that was in the walk, the tree is as it was; if it was in the difference, the
+    /// tree is empty.
     ///
     /// Code that is generic in the flavour asks for [`KeyTrees`], which both flavours have.
     ///
