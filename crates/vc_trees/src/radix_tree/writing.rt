@@ -280,8 +280,8 @@ pub trait AbstractRadixTreeMut<K: TKey, V: TValue>: CloneTree<K, V> + AbstractRa
     /// nothing is written or copied.
     ///
     /// Fails only where memory is refused, or the clone of a value in shared children that are
-    /// copied. If that was in the walk, the tree is as it was; if it was in the difference, the
-    /// tree is empty.
+    /// copied. The tree is then as it was, or empty. It is as it was if the walk was refused, since
+    /// the walk only reads it.
     ///
     /// Code that is generic in the flavour asks for [`KeyTrees`], which both flavours have.
     ///
