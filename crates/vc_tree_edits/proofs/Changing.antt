@@ -32,16 +32,17 @@ met-right {K = K} {tb = tb} j u {n} {zs} {m} s h = record {
     same-at [] = refl
     same-at (x ∷ r) = refl
 
+-- the parts have as many nodes
+pub taken-nodes : {K V T : Type 0} {tree : T → Tree K V} {keeps : V → V → Type 0} {t : Tree K V} {n : ℕ} {front : List K}
+    {value : Option V} {list : List T} {from : ℕ} (h : IsTaken tree keeps t n front value list from) → nodes h.taken ≡ nodes t
+taken-nodes h = grind (arith, alike-nodes)
+
 module _ {K V W T B : Type 0} {cmp : K → K → Ordering} {tree : T → Tree K V} {tb : B → Tree K W} {keeps : V → V → Type 0}
     {t : Tree K V} {u : Tree K W} {n : ℕ} {ys : List B} {j : ℕ} {front : List K} {value : Option V} {list : List T} {from : ℕ}
     (h : IsTaken tree keeps t n front value list from) (m : IsMet cmp tb t u n ys j) where
   -- the parts stand beside the right tree as the tree did
   pub faced-taken : IsFaced cmp tree tb h.taken u n list from ys j
   faced-taken = grind arith
-
-  -- the parts have as many nodes
-  pub taken-nodes : nodes h.taken ≡ nodes t
-  taken-nodes = grind (arith, alike-nodes)
 
   module _ {O : Type 0} (l : Look cmp W O) where
     -- what may be asked at each key of the tree, may be asked at each key of its parts

@@ -11,3 +11,4 @@ pub mod Noting
 pub mod Weaving
 pub mod Coming
 pub mod Beside
+pub mod Appended

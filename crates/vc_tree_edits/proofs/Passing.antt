@@ -110,6 +110,12 @@ module _ {A B : Type 0} (order : A ⊎ B → A ⊎ B → Ordering) where
   passed-rights (of_both x y ∷ runs) ls rs ls' rs' p = absurd p
 
 -- where a walk stops at a pair
+pub on-next : {B Q : Type 0} (o : Option B) {rs rest : List B} → rs ≡ cons_option o rest → ((y : B) → rs ≡ y ∷ rest → Q)
+    → OnSome o Q
+on-next None e f = tt
+on-next (Some y) e f = f y e
+
+-- the same, where the right tree is only read
 pub on-some : {B Q : Type 0} (o : Option (Bor B)) {rs rest : List B} → rs ≡ cons_option (option_copied o) rest
     → ((y : B) → rs ≡ y ∷ rest → Q) → OnSome o Q
 on-some None e f = tt

@@ -1,10 +1,10 @@
 -- A change of a tree in place, on the parts of the tree.
 --     values-may        what may be asked of the values at the fronts
 --     begun        the state before anything below is changed
---     stands-apart, stands-fewer        what is below both trees where they part, and its nodes
---     finished        the node of what is made below is what the change says
+--     ended-fewer, both-apart, stands-apart, stands-fewer        what is below both trees where they part, and its nodes
+--     made-of, finished        the node of what is made below is what the change says
 use Rattle.std.proofs.Common.{◌≡◌, ℕ, ◌+◌, ◌<◌, ◌≤◌, [], ◌∷◌, List, Option, None, slice_get, ap, subst, ◌∙◌, drop, take}
-use Rattle.std.proofs.Common.{length, length-drop, arith, sym, refl}
+use Rattle.std.proofs.Common.{length, length-drop, arith, sym, refl, inl, inr}
 use Rattle.std.proofs.Math.ListN.{drop_of_length-le}
 use Rattle.std.proofs.lemmas.List.{drop-drop}
 use Rattle.std.specs.Cmp.{IsTotalOrder}
@@ -22,6 +22,7 @@ use Rattle.vc_tree_model.proofs.AlikeLemmas.{tree-alike_canonical}
 use Rattle.vc_tree_model.specs.Look.{Look}
 use Rattle.vc_tree_facing.specs.Facing.{Parts, shortened_in}
 use Rattle.vc_tree_facing.specs.Made.{IsBothMadeBy}
+use Rattle.vc_tree_facing.specs.Sides.{by_component}
 use Rattle.vc_tree_facing.proofs.Components.{get-drop}
 use Rattle.vc_tree_facing.proofs.Ending.{values-asked, combine-started, made-front}
 use Rattle.vc_tree_facing.proofs.Leaving.{below-fewer}
@@ -94,15 +95,33 @@ parts-apart {K} cmp p q i j w h k =
 ended-rest : {K : Type 0} (i n : ℕ) (p : List K) → length p ≤ i + n → drop n (drop i p) ≡ []
 ended-rest i n p h = drop-drop n i p ∙ drop_of_length-le p h
 
+-- where a prefix has ended, the children below it have fewer nodes
+pub ended-fewer : {K V T : Type 0} {tree : T → Tree K V} (x : T) (i n : ℕ) {keeps : V → V → Type 0} {front : List K}
+    {value : Option V} {xs : List T} {from : ℕ} → length (tree x).prefix ≤ i + n
+    → IsTaken tree keeps (shortened i (tree x)) n front value xs from
+    → forest_nodes (shortened_in tree from xs) + 1 ≤ nodes (shortened i (tree x))
+ended-fewer {tree = tree} x i n s h =
+    let rest = ap (drop n) (sym h.alike.0) ∙ ended-rest i n (tree x).prefix s in
+    let kids = ap forest_nodes h.opened.children ∙ ap (λ q. forest_nodes (children_at h.taken q)) rest in
+    let same = taken-nodes h in
+    omega (arith, kids, same)
+
 module _ {K V W T B : Type 0} (cmp : K → K → Ordering) (tree : T → Tree K V) (tb : B → Tree K W) (x : T) (y : B) (i j n : ℕ) where
-  -- two trees that continue do not begin alike
-  pub stands-apart : (left : Below T) (right : Trees B) (m : ℕ) → LeftStands tree x (i + n) left
-      → RightStands tb y (j + n) right m → Parts cmp (drop n (drop i (tree x).prefix)) (drop n (drop j (tb y).prefix))
-      → AreApart cmp tree tb left right m
-  stands-apart (Alone z k) (One w) m s r p =
+  -- two trees that continue, each from the place where the prefixes part, do not begin alike
+  pub both-apart : {z : T} {k : ℕ} {w : B} {m : ℕ} → (z ≡ x) × (k ≡ i + n) × (i + n < length (tree x).prefix)
+      → (w ≡ y) × (m ≡ j + n) × (j + n < length (tb y).prefix)
+      → Parts cmp (drop n (drop i (tree x).prefix)) (drop n (drop j (tb y).prefix))
+      → by_component tree tb k m cmp (inl z) (inr w) ≡ Equal → ⊥
+  both-apart s r p =
       rw (s.0, s.1, r.0, r.1)
       (parts-apart cmp (tree x).prefix (tb y).prefix (i + n) (j + n)
       (rw (drop-drop n i (tree x).prefix, drop-drop n j (tb y).prefix) at p) s.2 r.2)
+
+  -- nor do those below
+  pub stands-apart : (left : Below T) (right : Trees B) (m : ℕ) → LeftStands tree x (i + n) left
+      → RightStands tb y (j + n) right m → Parts cmp (drop n (drop i (tree x).prefix)) (drop n (drop j (tb y).prefix))
+      → AreApart cmp tree tb left right m
+  stands-apart (Alone z k) (One w) m s r p = both-apart s r p
   stands-apart (Alone z k) (Many ws) m s r p = r.0
   stands-apart (Children zs) right m s r p = tt
 
@@ -119,11 +138,30 @@ module _ {K V W T B : Type 0} (cmp : K → K → Ordering) (tree : T → Tree K 
       ∙ ap (λ q. forest_nodes (children_at (shortened j (tb y)) q)) (ended-rest j n (tb y).prefix r.1) in
       omega (arith, same, kids)
   stands-fewer (Children zs) right m s r h met =
-      let rest = ap (drop n) (sym h.alike.0) ∙ ended-rest i n (tree x).prefix s in
-      let kids = ap forest_nodes h.opened.children ∙ ap (λ q. forest_nodes (children_at h.taken q)) rest in
-      let same = taken-nodes h met in
+      let kids = ended-fewer x i n s h in
       let others = below-fewer met.right in
-      omega (arith, kids, same, others)
+      omega (arith, kids, others)
+
+-- ---- what is made of both
+
+module _ {K V W O T B : Type 0} {cmp : K → K → Ordering} {tree : T → Tree K V} {tb : B → Tree K W} {keeps : V → V → Type 0}
+    {l : Look cmp W O} {says R : Option V → O → Option V → Type 0} {t : Tree K V} {u : Tree K W} {n : ℕ} {ys : List B} {j : ℕ}
+    {front : List K} {value made : Option V} {xs : List T} {i : ℕ} where
+  -- the node of what is made below is what the change says of the tree
+  pub made-of : IsTaken tree keeps t n front value xs i → IsMet cmp tb t u n ys j → IsTotalOrder cmp
+      → says None l.none None → ((v w : Option V) (z : O) (y : Option V) → IsKept keeps v w → says w z y → says v z y)
+      → says value (l.at (value_at u (drop n u.prefix))) made
+      → ((v : Option V) (w : O) (z : Option V) → R v w z → says v (l.under (value_at u (drop n u.prefix)) w) z)
+      → (h : Forest K V) → IsCombinedBelow cmp l R (shortened_in tree i xs) (shortened_in tb j ys) h
+      → {out : Option (Tree K V)} → out ≡ solid_child front made h → IsBothMadeBy cmp l says t u out
+  made-of h m total nothing kept said down kids k g =
+      let f = faced-taken h m in
+      let below = rw (f.left.children, f.right.children) at k.1 in
+      let root = subst (λ v. says v (l.at (value_at u (drop n u.prefix))) made) h.value_is said in
+      let front_is = h.front_is ∙ ap (take n) h.alike.0 in
+      made-taken h m l kept
+      (rw (g, front_is) (made-front total l h.taken u n f.same says nothing f.parts made kids k.0 root
+      (λ x q. down _ _ _ (below x q))))
 
 -- ---- a change that has begun
 
@@ -136,11 +174,4 @@ module _ {K V W O T B : Type 0} {cmp : K → K → Ordering} {tree : T → Tree 
       → ((v w : Option V) (z : O) (y : Option V) → IsKept keeps v w → says w z y → says v z y) → (h : Forest K V)
       → IsCombinedBelow cmp l R (shortened_in tree (from_of left) (lefts_of left)) (shortened_in tb j (trees_of right)) h
       → {out : Option (Tree K V)} → out ≡ solid_child front made h → IsBothMadeBy cmp l says t u out
-  finished nothing kept h k g =
-      let f = faced-taken s.taken s.met in
-      let below = rw (f.left.children, f.right.children) at k.1 in
-      let root = subst (λ v. says v (l.at (value_at u (drop s.length_front u.prefix))) made) s.taken.value_is s.said in
-      let front_is = s.taken.front_is ∙ ap (take s.length_front) s.taken.alike.0 in
-      made-taken s.taken s.met l kept
-      (rw (g, front_is) (made-front s.doing.total l s.taken.taken u s.length_front f.same says nothing f.parts made h k.0 root
-      (λ x q. s.said_below _ _ _ (below x q))))
+  finished nothing kept h k g = made-of s.taken s.met s.doing.total nothing kept s.said s.said_below h k g

@@ -5,3 +5,4 @@ pub mod Taken
 pub mod Kids
 pub mod Pairs
 pub mod Woven
+pub mod Appended

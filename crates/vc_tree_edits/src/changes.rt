@@ -22,7 +22,7 @@ use vc_tree_nodes::copying::{clone_value, copy_shortened};
 use vc_tree_nodes::reading::{RadixNode, TKey, TValue, canonical};
 
 /// The tree without the first `from` components of its prefix.
-fn shorten<K: TKey, V: TValue, T: Build<K, V>>(
+pub(crate) fn shorten<K: TKey, V: TValue, T: Build<K, V>>(
     alloc: Global,
     tree: T,
     from: usize,

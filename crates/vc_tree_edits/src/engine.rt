@@ -139,7 +139,7 @@ fn meet<'b, K: TKey, V: TValue, W: TValue, T: RadixNode<K, V>, B: RadixNode<K, W
 
 /// What is below a place of the prefix of a tree.
 #[derive(Drop)]
-enum Below<T> {
+pub(crate) enum Below<T> {
     /// The tree itself, which continues after so many components.
     Alone(T, usize),
     /// Its children.
@@ -148,17 +148,17 @@ enum Below<T> {
 
 /// What is left of a tree without the front of its prefix, taken apart at a place of that prefix.
 #[derive(Drop)]
-struct Taken<P, V, T> {
+pub(crate) struct Taken<P, V, T> {
     /// The components up to that place.
-    prefix: P,
+    pub(crate) prefix: P,
     /// The value of the key that ends there.
-    value: Option<V>,
+    pub(crate) value: Option<V>,
     /// What is below that place.
-    left: Below<T>,
+    pub(crate) left: Below<T>,
 }
 
 /// Takes a tree apart after the first `i` components of its prefix and `front` more.
-fn take_apart<K: TKey, V: TValue, T: Build<K, V>>(
+pub(crate) fn take_apart<K: TKey, V: TValue, T: Build<K, V>>(
     alloc: Global,
     tree: T,
     i: usize,
@@ -318,7 +318,7 @@ fn begin<
 }
 
 /// Puts what was made of the tree at a place back there, and answers whether it stays.
-fn put_back<T: Drop>(list: &mut Vec<T>, at: usize, made: Option<T>) -> bool
+pub(crate) fn put_back<T: Drop>(list: &mut Vec<T>, at: usize, made: Option<T>) -> bool
     requires { at < length list.old.items }
     ensures { (x : T) × IsSetAt list.old.items at x list.new.items
         × (made ≡ cond result (Some x) None) }
@@ -333,7 +333,11 @@ fn put_back<T: Drop>(list: &mut Vec<T>, at: usize, made: Option<T>) -> bool
 }
 
 /// Takes the tree at a place out of a list, and leaves the empty one there.
-fn take_at<K: TKey, V: TValue, T: Build<K, V>>(alloc: Global, list: &mut Vec<T>, at: usize) -> T
+pub(crate) fn take_at<K: TKey, V: TValue, T: Build<K, V>>(
+    alloc: Global,
+    list: &mut Vec<T>,
+    at: usize,
+) -> T
     requires { at < length list.old.items }
     ensures tree { result ≡ get_or list.old.items at result }
     ensures left { (x : T) × IsSetAt list.old.items at x list.new.items }
@@ -358,7 +362,7 @@ fn leave<
 }
 
 /// A list of two trees.
-fn two<T: Drop>(alloc: Global, first: T, second: T) -> Result<Vec<T>, AllocError>
+pub(crate) fn two<T: Drop>(alloc: Global, first: T, second: T) -> Result<Vec<T>, AllocError>
     ensures { IfOk result (λ list. list.items ≡ first ∷ second ∷ []) }
 {
     let mut list = Vec::with_capacity(alloc, 2)?;
@@ -403,7 +407,7 @@ fn keep_both<
 }
 
 /// The node of these parts as a child, once no event is left. A prefix that stays is moved.
-fn finish_in<K: TKey, V: TValue, T: Build<K, V>>(
+pub(crate) fn finish_in<K: TKey, V: TValue, T: Build<K, V>>(
     alloc: Global,
     prefix: T::Prefix,
     value: Option<V>,

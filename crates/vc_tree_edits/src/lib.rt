@@ -3,6 +3,7 @@
 //! is in `vc_trees`.
 #![tactic(auto)]
 
+pub mod appending;
 mod changes;
 pub mod combining;
 pub mod comers;
