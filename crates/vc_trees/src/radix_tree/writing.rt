@@ -26,7 +26,7 @@ use crate::radix_tree::reading::AbstractRadixTree;
 use crate::radix_tree::retaining::{self, KeyTrees};
 use std::alloc::{AllocError, Global};
 use vc_tree_combines::combines;
-use vc_tree_edits::{combining, prepending};
+use vc_tree_edits::{appending, combining, prepending};
 use vc_tree_nodes::building::Seal;
 use vc_tree_nodes::collecting::collect;
 use vc_tree_nodes::copying::CloneTree;
@@ -459,6 +459,28 @@ pub trait AbstractRadixTreeMut<K: TKey, V: TValue>: CloneTree<K, V> + AbstractRa
         ensures canonical { IsCanonical K.cmp (Self.tree self.new) }
     {
         combining::union_with(self, that)
+    }
+
+    /// Moves the pairs of the other tree into this one. A key of both gets the other tree's value.
+    ///
+    /// Nodes are moved with all that is below them, and what only one of the trees has is not
+    /// walked. No value is cloned, except in lists of children that another tree shares, which are
+    /// copied first. Where both trees have children, the shorter list is moved into the longer one.
+    ///
+    /// Fails only where the clone of a value in such a copy is refused, or memory: for a prefix of
+    /// more than 16 components, for lists of children, or for the copy of shared children. This
+    /// tree is then empty, and the other one is dropped.
+    ///
+    /// ```
+    /// routes.append(more_routes)?;
+    /// ```
+    final fn append(&mut self, that: Self) -> Result<(), AllocError>
+        ensures ok { OnOk result (IsCombined K.cmp (IsUnionAt Self.keeps Self.keeps)
+            (Self.tree that) (Self.tree self.old) (Self.tree self.new)) }
+        ensures err { OnErr result (Self.tree self.new ≡ no_tree) }
+        ensures canonical { IsCanonical K.cmp (Self.tree self.new) }
+    {
+        appending::append(self, that)
     }
 
     /// Keeps the keys that both bind. Their values stay in place.
