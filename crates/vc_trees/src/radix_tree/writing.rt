@@ -10,6 +10,7 @@ ghost use Rattle.vc_tree_model.specs.Combine.{IsCombined, IsInnerAt, IsLeftAt, I
 ghost use Rattle.vc_tree_model.specs.Combine.{IsUnionAt, IsIntersectionAt, IsDifferenceAt};
 ghost use Rattle.vc_tree_model.specs.Cover.{IsRemoved, IsRetained};
 ghost use Rattle.vc_tree_model.specs.Value.{Copies, IsKept};
+ghost use Rattle.vc_tree_model.specs.KeySets.{HasKeysOf};
 ghost use Rattle.vc_tree_model.specs.Map.{HaveEqualMaps, IsEqualMap, IsInserted, lookup};
 ghost use Rattle.vc_tree_model.specs.Canonical.{IsCanonical};
 ghost use Rattle.vc_tree_model.specs.Matches.{AreCopies};
@@ -32,7 +33,7 @@ use vc_tree_nodes::collecting::collect;
 use vc_tree_nodes::copying::CloneTree;
 use vc_tree_nodes::insertion;
 use vc_tree_nodes::plain::RadixTree;
-use vc_tree_nodes::reading::{TKey, TValue};
+use vc_tree_nodes::reading::{TKey, TValue, canonical};
 use vc_tree_nodes::shared::ArcRadixTree;
 use vc_tree_removal::{changing, removal, removal_below};
 use vc_tree_walks::filtering;
@@ -449,15 +450,22 @@ pub trait AbstractRadixTreeMut<K: TKey, V: TValue>: CloneTree<K, V> + AbstractRa
     /// Adds the keys that only the other tree binds, with clones of its values. The values of this
     /// tree stay in place.
     ///
-    /// Fails only where the clone of a value is refused, or memory: for a prefix of more than 16
-    /// components, for new lists of children, or for the copy of shared children. The tree is then
-    /// empty.
+    /// First tests whether a key is missing, up to the first one that is. Where none is, it takes
+    /// no memory, and nothing is written or copied. Fails only where the clone of a value is
+    /// refused, or memory: for a prefix of more than 16 components, for new lists of children, or
+    /// for the copy of shared children. The tree is then empty.
     final fn union_with<S: AbstractRadixTree<K, V>>(&mut self, that: &S) -> Result<(), AllocError>
         ensures ok { OnOk result (IsCombined K.cmp (IsUnionAt Self.keeps V.is_clone)
             (Self.tree self.old) (S.tree that.now) (Self.tree self.new)) }
+        ensures known { HasKeysOf K.cmp (Self.tree self.old) (S.tree that.now)
+            → IsOk result × (Self.tree self.new ≡ Self.tree self.old) }
         ensures err { OnErr result (Self.tree self.new ≡ no_tree) }
         ensures canonical { IsCanonical K.cmp (Self.tree self.new) }
     {
+        canonical(self);
+        if self.is_superset(that) {
+            return Ok(());
+        }
         combining::union_with(self, that)
     }
 
