@@ -146,6 +146,37 @@ fn changes_clone_no_value_of_the_left(rt: HostRuntime) {
     }
 }
 
+/// Appends the right tree where no value may be cloned, and answers the numbers of the tree.
+fn appended<'a, T: AbstractRadixTreeMut<u8, Counted<'a>>>(
+    alloc: Global,
+    tally: &'a Tally,
+) -> Result<Row, AllocError> {
+    let that: T = tree_of(alloc, &RIGHT, tally)?;
+    let mut tree: T = tree_of(alloc, &LEFT, tally)?;
+    tally.clones_left.set(0);
+    tree.append(that)?;
+    Ok(row_of(&tree))
+}
+
+#[test]
+fn append_moves_the_values_of_both(rt: HostRuntime) {
+    let (plain, shared) = (Tally::new(), Tally::new());
+    let moved = Ok([0, 6, 2, 5, 7, 0]);
+    same(
+        &rt,
+        &"plain",
+        &appended::<RadixTree<u8, Counted>>(rt.alloc(), &plain),
+        &moved,
+    );
+    same(
+        &rt,
+        &"shared",
+        &appended::<ArcRadixTree<u8, Counted>>(rt.alloc(), &shared),
+        &moved,
+    );
+    holds(&rt, &"drops", Ok(are_dropped_once(&plain, &shared)));
+}
+
 /// The most clones that are granted to a change: as many as any of them takes.
 const GRANTED: u32 = 3;
 
