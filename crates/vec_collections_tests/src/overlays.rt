@@ -133,6 +133,15 @@ pub fn leave_out(ports: &mut SharedPorts, that: &SharedPorts) -> Result<(), Allo
     ports.difference_with(that)
 }
 
+/// Moves the overrides over the ports. A server of both gets the port of the overrides.
+#[tactic(auto, using(vec_collections::specs::Exact::exactly))]
+pub fn put_over(ports: &mut SharedPorts, overrides: SharedPorts) -> Result<(), AllocError>
+    ensures { OnOk result ((k : List ℕ) → lookup nat_cmp ports.new k
+        ≡ or_else (lookup nat_cmp overrides k) (lookup nat_cmp ports.old k)) }
+{
+    ports.append(overrides)
+}
+
 /// Takes over the ports of another tree, with all of its servers.
 #[tactic(auto, using(vec_collections::specs::Exact::exactly))]
 pub fn renew_all(ports: &mut SharedPorts, that: &SharedPorts) -> Result<(), AllocError>

@@ -9,6 +9,7 @@ ghost use Rattle.std.specs.Hash as fed;
 ghost use Rattle.std.specs.List.{find, fold, list_any};
 ghost use Rattle.std.specs.String.{string_cmp};
 ghost use Rattle.std.specs.Cmp.Lexicographic.{slice_cmp, slice_partial_cmp};
+ghost use Rattle.vec_collections.specs.TotalSet.{IsEqualTotal};
 ghost use Rattle.vec_collections_tests.specs.Names.{has_letters};
 ghost use Rattle.vec_collections_tests.specs.Tags.{has, IsEither, IsBoth, IsOne, IsRest, AreMade, AreTested};
 
@@ -19,8 +20,9 @@ use std::collections::BTreeSet;
 use std::hash::{Hash, Hasher};
 use std::marker::Model;
 use vec_collections::iterators::ascends;
-use vec_collections::laws::tests_are_of_operations;
+use vec_collections::laws::{complements_turn_operations, tests_are_of_operations};
 use vec_collections::merge::Steps;
+use vec_collections::total_vec_set::TotalVecSet;
 use vec_collections::{
     AbstractVecSet, SetOp, SetTest, VecSet, VecSet2, difference, intersection,
     symmetric_difference, union,
@@ -28,6 +30,9 @@ use vec_collections::{
 
 /// The tags of an article. Four of them need no allocation.
 pub type Tags = VecSet<u32, 4>;
+
+/// Tags, or all but some tags.
+pub type Chosen = TotalVecSet<u32, 4>;
 
 /// The results of the four operations on the tags of two articles.
 #[derive(Drop)]
@@ -503,4 +508,16 @@ pub fn holds(shelf: &Shelf, tags: &Tags) -> bool
     ensures { IsTrue result ↔ ((tag : ℕ) → IsTrue (has tags.now tag) → IsTrue (has shelf.now tag)) }
 {
     shelf.is_superset(tags)
+}
+
+/// The tags that are not in both sets, worked out in two ways, which are equal.
+pub fn not_in_both(a: &Chosen, b: &Chosen) -> Result<(Chosen, Chosen), AllocError>
+    ensures { IfOk result (λ ways. IsEqualTotal nat_cmp ways.0 ways.1) }
+{
+    complements_turn_operations::<u32>();
+    let mut both = a.clone()?;
+    both.bitand_assign(b.clone()?)?;
+    let mut either = !a.clone()?;
+    either.bitor_assign(!b.clone()?)?;
+    Ok((!both, either))
 }

@@ -12,6 +12,7 @@ ghost use Rattle.vec_collections.specs.Left.{Walks};
 ghost use Rattle.vec_collections.specs.Map.{lookup};
 ghost use Rattle.vec_collections.specs.OwnedLeft.{held_left, held_work, WalksClones};
 ghost use Rattle.vec_collections.specs.Prefixes.{bound_prefixes};
+ghost use Rattle.vec_collections.specs.PrefixLaws.{ListsEqualMap};
 ghost use Rattle.vec_collections.specs.PrefixesLeft.{prefixes_left};
 ghost use Rattle.vec_collections.specs.RangeLeft.{range_left, range_work};
 ghost use Rattle.vec_collections.specs.Under.{under};
@@ -19,9 +20,12 @@ ghost use Rattle.vec_collections.specs.ValuesLeft.{values_left, values_work};
 ghost use Rattle.vec_collections.specs.Walk.{IsWalk, walk};
 ghost use Rattle.vec_collections_tests.specs.declared.walks.Uncounted.TheVariants.{NoMemory, Port};
 
+use crate::trees::Ports;
 use std::alloc::AllocError;
+use vec_collections::laws::{ByItself, walk_is_filtered};
 use vec_collections::radix_tree::{
-    AbstractRadixTree, Iter, IterKey, ObjAndIter, Prefixes, Range, TKey, TValue, Values,
+    AbstractRadixTree, AbstractRadixTreeMut, Iter, IterKey, ObjAndIter, Prefixes, Range, TKey,
+    TValue, Values,
 };
 
 /// The pairs of a tree by ascending keys, and its values, which are those of the pairs in their
@@ -44,6 +48,20 @@ pub fn pairs_below<'a, K: TKey, V: TValue + 'a, T: AbstractRadixTree<K, V>>(
         (pairs_left T.tree result) }
 {
     tree.scan_prefix(folder)
+}
+
+/// The ports of the names that begin with a prefix, as a tree of them, and as a walk of all. The walk
+/// lists what the tree binds, and nothing else.
+pub fn filtered_and_walked<'a>(
+    ports: &'a Ports,
+    prefix: &'a [u8],
+) -> Result<(Ports, Iter<'a, u8, u32, Ports>), AllocError>
+    ensures { IfOk result (λ both. ListsEqualMap ℕ ℕ nat_cmp (λ v w. v ≡ w)
+        (pairs_left (λ t. t) both.1) (lookup nat_cmp both.0)) }
+{
+    walk_is_filtered::<u8, u32, ByItself>();
+    let made = ports.filter_prefix(prefix)?;
+    Ok((made, ports.scan_prefix(prefix)))
 }
 
 /// The names from one on, up to another one, each with its port.
