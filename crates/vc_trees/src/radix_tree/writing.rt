@@ -10,7 +10,7 @@ ghost use Rattle.vc_tree_model.specs.Combine.{IsCombined, IsInnerAt, IsLeftAt, I
 ghost use Rattle.vc_tree_model.specs.Combine.{IsUnionAt, IsIntersectionAt, IsDifferenceAt};
 ghost use Rattle.vc_tree_model.specs.Cover.{IsRemoved, IsRetained};
 ghost use Rattle.vc_tree_model.specs.Value.{Copies, IsKept};
-ghost use Rattle.vc_tree_model.specs.KeySets.{HasKeysOf};
+ghost use Rattle.vc_tree_model.specs.KeySets.{AreDisjoint, HasKeysOf};
 ghost use Rattle.vc_tree_model.specs.Map.{HaveEqualMaps, IsEqualMap, IsInserted, lookup};
 ghost use Rattle.vc_tree_model.specs.Canonical.{IsCanonical};
 ghost use Rattle.vc_tree_model.specs.Matches.{AreCopies};
@@ -493,37 +493,51 @@ pub trait AbstractRadixTreeMut<K: TKey, V: TValue>: CloneTree<K, V> + AbstractRa
 
     /// Keeps the keys that both bind. Their values stay in place.
     ///
-    /// Children that stay do so in their own list. It takes memory only where an only child is
-    /// merged with its parent and their prefix has more than 16 components, and for the copy of
-    /// children that another tree shares. Fails only where that memory, or the clone of a value in
-    /// such a copy, is refused. The tree is then empty.
+    /// First tests whether a key goes, up to the first one that does. Where none does, nothing is
+    /// written or copied. Children that stay do so in their own list. It takes memory only where an
+    /// only child is merged with its parent and their prefix has more than 16 components, and for
+    /// the copy of children that another tree shares. Fails only where that memory, or the clone of
+    /// a value in such a copy, is refused. The tree is then empty.
     final fn intersection_with<W: TValue, S: AbstractRadixTree<K, W>>(
         &mut self,
         that: &S,
     ) -> Result<(), AllocError>
         ensures ok { OnOk result (IsCombined K.cmp (IsIntersectionAt Self.keeps)
             (Self.tree self.old) (S.tree that.now) (Self.tree self.new)) }
+        ensures known { HasKeysOf K.cmp (S.tree that.now) (Self.tree self.old)
+            → IsOk result × (Self.tree self.new ≡ Self.tree self.old) }
         ensures err { OnErr result (Self.tree self.new ≡ no_tree) }
         ensures canonical { IsCanonical K.cmp (Self.tree self.new) }
     {
+        canonical(self);
+        if self.is_subset(that) {
+            return Ok(());
+        }
         combining::intersection_with(self, that)
     }
 
     /// Keeps the keys that only this tree binds. Their values stay in place.
     ///
-    /// Children that stay do so in their own list. It takes memory only where an only child is
-    /// merged with its parent and their prefix has more than 16 components, and for the copy of
-    /// children that another tree shares. Fails only where that memory, or the clone of a value in
-    /// such a copy, is refused. The tree is then empty.
+    /// First tests whether a key goes, up to the first one that does. Where none does, nothing is
+    /// written or copied. Children that stay do so in their own list. It takes memory only where an
+    /// only child is merged with its parent and their prefix has more than 16 components, and for
+    /// the copy of children that another tree shares. Fails only where that memory, or the clone of
+    /// a value in such a copy, is refused. The tree is then empty.
     final fn difference_with<W: TValue, S: AbstractRadixTree<K, W>>(
         &mut self,
         that: &S,
     ) -> Result<(), AllocError>
         ensures ok { OnOk result (IsCombined K.cmp (IsDifferenceAt Self.keeps)
             (Self.tree self.old) (S.tree that.now) (Self.tree self.new)) }
+        ensures apart { AreDisjoint K.cmp (Self.tree self.old) (S.tree that.now)
+            → IsOk result × (Self.tree self.new ≡ Self.tree self.old) }
         ensures err { OnErr result (Self.tree self.new ≡ no_tree) }
         ensures canonical { IsCanonical K.cmp (Self.tree self.new) }
     {
+        canonical(self);
+        if self.is_disjoint(that) {
+            return Ok(());
+        }
         combining::difference_with(self, that)
     }
 
