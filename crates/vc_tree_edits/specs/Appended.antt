@@ -40,9 +40,9 @@ module _ {T : Type 0} where
   AreApartBelow cmp tree (Alone x i) (Children ys) = ⊤
   AreApartBelow cmp tree (Children xs) right = ⊤
 
--- of the lists xs and ys, without the first j components of the prefixes of ys, one list was made up to the place `at` of ls: it
--- has the first `kept` trees of ls, and the comers at their places. The trees of ls from that place on are left, and of ys those
--- that the right list has
+-- ls is the list that was xs, as changed so far. Of xs and ys, without the first j components of the prefixes of ys, one list was
+-- made up to the place `at` of ls: it has the first `kept` trees of ls, and the comers at their places. The trees of ls from that
+-- place on are left, and of ys those that the right list has
 pub record IsAppending {K V T : Type 0} (cmp : K → K → Ordering) (tree : T → Tree K V) (keeps : V → V → Type 0)
     (right_wins : Bool) (j : ℕ) (xs ys ls : List T) (kept at : ℕ) (right : RightList T) : Type 0 where
   pub order : kept ≤ at

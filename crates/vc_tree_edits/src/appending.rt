@@ -47,7 +47,8 @@ struct RightList<T> {
     comers: Vec<Comer<T>>,
 }
 
-/// The tree without the first `from` components of its prefix, with the values that it has.
+/// The tree without the first `from` components of its prefix. Its clause says that all values are
+/// kept.
 fn come_whole<K: TKey, V: TValue, T: Build<K, V>>(
     alloc: Global,
     tree: T,
@@ -78,7 +79,7 @@ fn take_next<K: TKey, V: TValue, T: Build<K, V>>(
 }
 
 /// Moves the next `n` trees of the right list to the comers, without the first `from` components of
-/// their prefixes. They come in after so many trees of the left list as `place` says.
+/// their prefixes. They will be put in after the first `place` trees of the left list.
 fn move_next<K: TKey, V: TValue, T: Build<K, V>>(
     alloc: Global,
     right: &mut RightList<T>,
@@ -185,8 +186,8 @@ impl<'a, K: TKey, V: TValue, T: Build<K, V>, C: Count> MergeOperation<Moving<'a,
     }
 }
 
-/// Where a walk along two lists of trees stops, of which the right one is moved: at the next two
-/// that begin alike, or at the end.
+/// Where a merge of two lists stops: at the next two trees that begin alike, or at the end. The right
+/// trees before that place were moved.
 #[derive(Drop)]
 struct Met<T> {
     /// The number of left trees that were passed, which the right list does not have.
@@ -198,7 +199,7 @@ struct Met<T> {
 }
 
 /// The next two trees that begin alike, found by a merge, which moves the right trees before them
-/// to the comers. `place` trees stay before the left ones. Where each merge uses the plan of the
+/// to the comers. `place` trees are kept before `lefts`. Where each merge uses the plan of the
 /// two whole lists, and continues from the pair before, all of them together compare no more than
 /// one merge.
 fn next_met<K: TKey, V: TValue, T: Build<K, V>, C: Count>(
@@ -260,7 +261,7 @@ fn choose_value<K: TKey, V: TValue, T: Build<K, V>>(
     }
 }
 
-/// Two trees of which neither begins as the other one, in order.
+/// A list of two trees whose next components differ, in order.
 fn in_order<K: TKey, V: TValue, T: Build<K, V>>(
     alloc: Global,
     tree: T,
@@ -420,7 +421,8 @@ fn append_list<K: TKey, V: TValue, T: Build<K, V>>(
 }
 
 /// Moves the nodes of the other tree into this one. At a key of both the value of the other tree
-/// stays. The empty tree replaces this one where memory is refused.
+/// stays. The empty tree replaces this one where memory is refused, or the clone of a value in a
+/// list that is shared.
 pub fn append<K: TKey, V: TValue, T: Build<K, V>>(tree: &mut T, that: T) -> Result<(), AllocError>
     ensures ok { OnOk result (IsCombined K.cmp (IsUnionAt T.keeps T.keeps) (T.tree that)
         (T.tree tree.old) (T.tree tree.new)) }

@@ -1,4 +1,4 @@
-//! The recursion of the changes of a tree, in place, into which trees of another one come.
+//! The recursion of the changes of a tree in place into which copies of trees of another one come.
 
 ghost use Rattle.std.specs.Prelude.{◌≡◌, ◌+◌, ◌<◌, ◌≤◌, ◌∷◌, List, [], Option, None, IfOk, IfSome};
 ghost use Rattle.std.specs.Prelude.{Some, cond, drop, length, get_or, option_map};

@@ -1,6 +1,6 @@
-//! Changes of a radix tree in place: components put before all its keys, combines, and removal and
-//! retention of the keys that another tree covers. For the crates above; the trait that users name
-//! is in `vc_trees`.
+//! Changes of a radix tree in place: components put before all its keys, another tree moved in,
+//! combines, and removal and retention of the keys that another tree covers. For the crates above;
+//! the trait that users name is in `vc_trees`.
 #![tactic(auto)]
 
 pub mod appending;
