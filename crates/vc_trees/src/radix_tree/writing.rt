@@ -331,7 +331,7 @@ pub trait AbstractRadixTreeMut<K: TKey, V: TValue>: CloneTree<K, V> + AbstractRa
 
     /// Removes all keys that begin with `prefix`, with their values, and answers them as a separate
     /// tree, with their whole keys; the empty tree where no key begins so. The other keys keep
-    /// their values. `union_with` of the answer puts the keys back.
+    /// their values. `append` of the answer puts the keys back.
     ///
     /// The keys are below one node, which is moved with a longer prefix: nothing below it is
     /// touched. The components before the node's own prefix are those of `prefix`.
@@ -450,10 +450,11 @@ pub trait AbstractRadixTreeMut<K: TKey, V: TValue>: CloneTree<K, V> + AbstractRa
     /// Adds the keys that only the other tree binds, with clones of its values. The values of this
     /// tree stay in place.
     ///
-    /// First tests whether a key is missing, up to the first one that is. Where none is, it takes
-    /// no memory, and nothing is written or copied. Fails only where the clone of a value is
-    /// refused, or memory: for a prefix of more than 16 components, for new lists of children, or
-    /// for the copy of shared children. The tree is then empty.
+    /// First tests whether this tree lacks a key of the other one, and ends the test at the first
+    /// such key. Where there is none, it takes no memory, and nothing is written or copied. Fails
+    /// only where the clone of a value is refused, or memory: for a prefix of more than 16
+    /// components, for new lists of children, or for the copy of shared children. The tree is then
+    /// empty.
     final fn union_with<S: AbstractRadixTree<K, V>>(&mut self, that: &S) -> Result<(), AllocError>
         ensures ok { OnOk result (IsCombined K.cmp (IsUnionAt Self.keeps V.is_clone)
             (Self.tree self.old) (S.tree that.now) (Self.tree self.new)) }
@@ -475,9 +476,10 @@ pub trait AbstractRadixTreeMut<K: TKey, V: TValue>: CloneTree<K, V> + AbstractRa
     /// walked. No value is cloned, except in lists of children that another tree shares, which are
     /// copied first. Where both trees have children, the shorter list is moved into the longer one.
     ///
-    /// Fails only where the clone of a value in such a copy is refused, or memory: for a prefix of
-    /// more than 16 components, for lists of children, or for the copy of shared children. This
-    /// tree is then empty, and the other one is dropped.
+    /// Where one of the trees is empty, it takes no memory, and nothing is copied. Fails only where
+    /// the clone of a value in such a copy is refused, or memory: for a prefix of more than 16
+    /// components, for lists of children, or for the copy of shared children. This tree is then
+    /// empty, and the other one is dropped.
     ///
     /// ```
     /// routes.append(more_routes)?;
@@ -485,19 +487,32 @@ pub trait AbstractRadixTreeMut<K: TKey, V: TValue>: CloneTree<K, V> + AbstractRa
     final fn append(&mut self, that: Self) -> Result<(), AllocError>
         ensures ok { OnOk result (IsCombined K.cmp (IsUnionAt Self.keeps Self.keeps)
             (Self.tree that) (Self.tree self.old) (Self.tree self.new)) }
+        ensures nothing { Self.tree that ≡ no_tree
+            → IsOk result × (Self.tree self.new ≡ Self.tree self.old) }
+        ensures whole { Self.tree self.old ≡ no_tree
+            → IsOk result × (Self.tree self.new ≡ Self.tree that) }
         ensures err { OnErr result (Self.tree self.new ≡ no_tree) }
         ensures canonical { IsCanonical K.cmp (Self.tree self.new) }
     {
+        canonical(self);
+        canonical(&that);
+        if that.is_empty() {
+            return Ok(());
+        }
+        if self.is_empty() {
+            *self = that;
+            return Ok(());
+        }
         appending::append(self, that)
     }
 
     /// Keeps the keys that both bind. Their values stay in place.
     ///
-    /// First tests whether a key goes, up to the first one that does. Where none does, nothing is
-    /// written or copied. Children that stay do so in their own list. It takes memory only where an
-    /// only child is merged with its parent and their prefix has more than 16 components, and for
-    /// the copy of children that another tree shares. Fails only where that memory, or the clone of
-    /// a value in such a copy, is refused. The tree is then empty.
+    /// First tests whether a key has to be removed, and ends the test at the first such key. Where
+    /// there is none, nothing is written or copied. Children that stay do so in their own list. It
+    /// takes memory only where an only child is merged with its parent and their prefix has more
+    /// than 16 components, and for the copy of children that another tree shares. Fails only where
+    /// that memory, or the clone of a value in such a copy, is refused. The tree is then empty.
     final fn intersection_with<W: TValue, S: AbstractRadixTree<K, W>>(
         &mut self,
         that: &S,
@@ -518,11 +533,11 @@ pub trait AbstractRadixTreeMut<K: TKey, V: TValue>: CloneTree<K, V> + AbstractRa
 
     /// Keeps the keys that only this tree binds. Their values stay in place.
     ///
-    /// First tests whether a key goes, up to the first one that does. Where none does, nothing is
-    /// written or copied. Children that stay do so in their own list. It takes memory only where an
-    /// only child is merged with its parent and their prefix has more than 16 components, and for
-    /// the copy of children that another tree shares. Fails only where that memory, or the clone of
-    /// a value in such a copy, is refused. The tree is then empty.
+    /// First tests whether a key has to be removed, and ends the test at the first such key. Where
+    /// there is none, nothing is written or copied. Children that stay do so in their own list. It
+    /// takes memory only where an only child is merged with its parent and their prefix has more
+    /// than 16 components, and for the copy of children that another tree shares. Fails only where
+    /// that memory, or the clone of a value in such a copy, is refused. The tree is then empty.
     final fn difference_with<W: TValue, S: AbstractRadixTree<K, W>>(
         &mut self,
         that: &S,
