@@ -1,5 +1,6 @@
-//! Changes of trees in place, in both flavours: each call at every key of either tree, what it
-//! clones and drops, and what is left where a clone is refused; and changes worked out by hand.
+//! Changes of trees in place, in both flavours: each call that reads another tree, at every key of
+//! either tree, what it clones and drops, and what is left where a clone is refused; what `append`
+//! moves; and changes worked out by hand.
 use super::outcomes::{holds, same};
 use super::tests::{Counted, Tally, number_at};
 use super::walks::put_pair;

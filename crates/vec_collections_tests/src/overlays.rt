@@ -133,7 +133,7 @@ pub fn leave_out(ports: &mut SharedPorts, that: &SharedPorts) -> Result<(), Allo
     ports.difference_with(that)
 }
 
-/// Moves the overrides over the ports. A server of both gets the port of the overrides.
+/// Moves the overrides into the ports. A server that is in both gets its port from the overrides.
 #[tactic(auto, using(vec_collections::specs::Exact::exactly))]
 pub fn put_over(ports: &mut SharedPorts, overrides: SharedPorts) -> Result<(), AllocError>
     ensures { OnOk result ((k : List ℕ) → lookup nat_cmp ports.new k

@@ -50,8 +50,8 @@ pub fn pairs_below<'a, K: TKey, V: TValue + 'a, T: AbstractRadixTree<K, V>>(
     tree.scan_prefix(folder)
 }
 
-/// The ports of the names that begin with a prefix, as a tree of them, and as a walk of all. The walk
-/// lists what the tree binds, and nothing else.
+/// The ports of the names that begin with a prefix: as a tree of their own, and as a walk over all
+/// ports. Both have the same pairs.
 pub fn filtered_and_walked<'a>(
     ports: &'a Ports,
     prefix: &'a [u8],
