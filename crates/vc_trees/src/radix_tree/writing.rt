@@ -10,7 +10,6 @@ ghost use Rattle.vc_tree_model.specs.Combine.{IsCombined, IsInnerAt, IsLeftAt, I
 ghost use Rattle.vc_tree_model.specs.Combine.{IsUnionAt, IsIntersectionAt, IsDifferenceAt};
 ghost use Rattle.vc_tree_model.specs.Cover.{IsRemoved, IsRetained};
 ghost use Rattle.vc_tree_model.specs.Value.{Copies, IsKept};
-ghost use Rattle.vc_tree_model.specs.KeySets.{AreDisjoint, HasKeysOf};
 ghost use Rattle.vc_tree_model.specs.Map.{HaveEqualMaps, IsEqualMap, IsInserted, lookup};
 ghost use Rattle.vc_tree_model.specs.Canonical.{IsCanonical};
 ghost use Rattle.vc_tree_model.specs.Matches.{AreCopies};
@@ -458,8 +457,6 @@ pub trait AbstractRadixTreeMut<K: TKey, V: TValue>: CloneTree<K, V> + AbstractRa
     final fn union_with<S: AbstractRadixTree<K, V>>(&mut self, that: &S) -> Result<(), AllocError>
         ensures ok { OnOk result (IsCombined K.cmp (IsUnionAt Self.keeps V.is_clone)
             (Self.tree self.old) (S.tree that.now) (Self.tree self.new)) }
-        ensures known { HasKeysOf K.cmp (Self.tree self.old) (S.tree that.now)
-            → IsOk result × (Self.tree self.new ≡ Self.tree self.old) }
         ensures err { OnErr result (Self.tree self.new ≡ no_tree) }
         ensures canonical { IsCanonical K.cmp (Self.tree self.new) }
     {
@@ -519,8 +516,6 @@ pub trait AbstractRadixTreeMut<K: TKey, V: TValue>: CloneTree<K, V> + AbstractRa
     ) -> Result<(), AllocError>
         ensures ok { OnOk result (IsCombined K.cmp (IsIntersectionAt Self.keeps)
             (Self.tree self.old) (S.tree that.now) (Self.tree self.new)) }
-        ensures known { HasKeysOf K.cmp (S.tree that.now) (Self.tree self.old)
-            → IsOk result × (Self.tree self.new ≡ Self.tree self.old) }
         ensures err { OnErr result (Self.tree self.new ≡ no_tree) }
         ensures canonical { IsCanonical K.cmp (Self.tree self.new) }
     {
@@ -544,8 +539,6 @@ pub trait AbstractRadixTreeMut<K: TKey, V: TValue>: CloneTree<K, V> + AbstractRa
     ) -> Result<(), AllocError>
         ensures ok { OnOk result (IsCombined K.cmp (IsDifferenceAt Self.keeps)
             (Self.tree self.old) (S.tree that.now) (Self.tree self.new)) }
-        ensures apart { AreDisjoint K.cmp (Self.tree self.old) (S.tree that.now)
-            → IsOk result × (Self.tree self.new ≡ Self.tree self.old) }
         ensures err { OnErr result (Self.tree self.new ≡ no_tree) }
         ensures canonical { IsCanonical K.cmp (Self.tree self.new) }
     {
