@@ -116,7 +116,7 @@ def calls_in(file):
 @cache
 def calls_beside(kind):
     """All calls that lines of the tests name as refused, or as quiet."""
-    files = sorted({*ROOT.glob("tools/sweep/src/*.rattle"), *ROOT.glob("crates/*/src/**/*.rt")})
+    files = sorted({*ROOT.glob("tools/sweep/src/*.rattle"), *ROOT.glob("crates/*/src/**/*.rt"), *ROOT.glob("crates/*/tests/*.rattle")})
     found = (call for path in files for call in calls_in(path.relative_to(ROOT).as_posix()))
     return sorted((call for call in found if call.kind == kind), key=Call.order)
 

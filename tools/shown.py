@@ -242,11 +242,12 @@ def tests(crate):
     """A table of the files of a crate that have tests, by what the first lines of each say."""
     yield "| file | what |"
     yield "|---|---|"
-    for path in sorted((ROOT / "crates" / crate / "src").rglob("*.rt")):
+    top = ROOT / "crates" / crate
+    for path in sorted([*(top / "src").rglob("*.rt"), *(top / "tests").glob("*.rattle")], key=lambda it: it.name):
         text = path.read_text()
         head = " ".join(line.removeprefix("//!").strip() for line in text.splitlines() if line.startswith("//!"))
         if "#[test]" in text and head:
-            yield f"| `{path.relative_to(ROOT / 'crates' / crate / 'src').as_posix()}` | {head.replace('|', chr(92) + '|')} |"
+            yield f"| `{path.relative_to(top).as_posix()}` | {head.replace('|', chr(92) + '|')} |"
 
 
 def parts_on(page, names):

@@ -1,12 +1,2 @@
-//! A crate that uses joins of maps as a user does: worked examples, joins in place, and a refused
-//! one.
+//! What tests of joins of `BTreeMap` stand on: the modules in `tests`.
 #![tactic(auto)]
-
-#[cfg(test)]
-mod examples;
-#[cfg(test)]
-mod in_place;
-#[cfg(test)]
-mod outcomes;
-#[cfg(test)]
-mod refused;

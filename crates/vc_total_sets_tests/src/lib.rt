@@ -1,7 +1,5 @@
-//! A crate that uses total sets as a user does, and sets that are written out: worked cases.
+//! Total sets, and sets that are written out.
 #![tactic(auto)]
 
-#[cfg(test)]
-mod cases;
 #[cfg(test)]
 mod written;

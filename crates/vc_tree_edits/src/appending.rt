@@ -186,8 +186,8 @@ impl<'a, K: TKey, V: TValue, T: Build<K, V>, C: Count> MergeOperation<Moving<'a,
     }
 }
 
-/// Where a merge of two lists stops: at the next two trees that begin alike, or at the end. The right
-/// trees before that place were moved.
+/// Where a merge of two lists stops: at the next two trees that begin alike, or at the end. The
+/// right trees before that place were moved.
 #[derive(Drop)]
 struct Met<T> {
     /// The number of left trees that were passed, which the right list does not have.
@@ -333,7 +333,8 @@ fn append_at<K: TKey, V: TValue, T: Build<K, V>>(
 }
 
 /// Makes one list of what two trees have below the place where their prefixes diverge. A single
-/// tree is moved into a list of children, and the shorter one of two such lists into the longer one.
+/// tree is moved into a list of children, and the shorter one of two such lists into the longer
+/// one.
 #[cycle(appending)]
 fn append_below<K: TKey, V: TValue, T: Build<K, V>>(
     alloc: Global,

@@ -1,5 +1,4 @@
-//! A crate that uses radix trees as a user does: a tree of its own, generic code, and each call at
-//! both flavours.
+//! A crate that uses radix trees as a user does: a tree of its own, and generic code.
 #![tactic(auto)]
 
 ghost use Rattle.std.specs.Prelude.{◌≡◌, Some, None, IsSome, OnOk, OnErr};
@@ -9,39 +8,6 @@ ghost use Rattle.vc_tree_model.specs.Map.{HaveEqualMaps, IsInserted, lookup};
 use std::alloc::{AllocError, Global};
 use std::cell::Cell;
 use vc_trees::radix_tree::{AbstractRadixTree, AbstractRadixTreeMut, RadixNode, TKey, TValue};
-
-#[cfg(test)]
-mod asked;
-#[cfg(test)]
-mod below;
-#[cfg(test)]
-mod combines;
-#[cfg(test)]
-mod commands;
-#[cfg(test)]
-mod counted_combines;
-#[cfg(test)]
-mod ends;
-#[cfg(test)]
-mod filters;
-#[cfg(test)]
-mod in_place;
-#[cfg(test)]
-mod lookups;
-#[cfg(test)]
-mod outcomes;
-#[cfg(test)]
-mod questions;
-#[cfg(test)]
-mod retained;
-#[cfg(test)]
-mod tests;
-#[cfg(test)]
-mod two_trees;
-#[cfg(test)]
-mod walks;
-#[cfg(test)]
-mod whole_trees;
 
 /// A tree of one key, which is kept in a list: a tree of another crate.
 #[derive(Drop)]
