@@ -45,13 +45,13 @@ pub fn split<K: TKey, V: TValue, W: TValue, T: RadixNode<K, V>, B: RadixNode<K, 
     common_front(p, q, known)
 }
 
-/// The number of trees to make room for, that come from two lists of these lengths: those of the
-/// longer list and half of the other one, whose trees may meet them.
+/// The number of trees to make room for, that come from two lists of these lengths: all of them, or
+/// half as many again as the longer list has, since trees of both may meet.
 pub fn expected(left: usize, right: usize) -> usize
     ensures { result ≤ left + right }
 {
     let (shorter, longer) = (left.min(right), left.max(right));
-    longer.saturating_add(shorter.div_ceil(2))
+    longer.saturating_add(shorter.min(longer.div_ceil(2)))
 }
 
 /// How a tree of the right side compares with one of the left, by the components at these places of
