@@ -1,7 +1,7 @@
 //! How trees are copied: one of any type into a flavour, and one of a flavour as cheaply as that
 //! flavour can.
 
-ghost use Rattle.std.specs.Prelude.{◌≡◌, ◌≤◌, IfOk, length};
+ghost use Rattle.std.specs.Prelude.{◌≡◌, ◌≤◌, ◌++◌, ◌∷◌, [], IfOk, OnOk, length};
 ghost use Rattle.std.specs.Option.{option_copied};
 ghost use Rattle.vc_tree_model.specs.Canonical.{IsCanonical};
 ghost use Rattle.vc_tree_model.specs.Map.{IsEqualMap, lookup};
@@ -31,7 +31,6 @@ pub fn clone_value<V: Clone>(value: Option<&V>) -> Result<Option<V>, AllocError>
 
 /// A copy of the tree without the first `from` components of its prefix, with a clone of each
 /// value. Allocates once for each list of children.
-#[cycle(copying)]
 pub fn copy_shortened<K: TKey, V: TValue, S: RadixNode<K, V>, T: Build<K, V>>(
     alloc: Global,
     tree: &S,
@@ -52,6 +51,28 @@ pub fn copy_shortened<K: TKey, V: TValue, S: RadixNode<K, V>, T: Build<K, V>>(
     Ok(copy)
 }
 
+/// Appends a copy of the tree without the first `from` components of its prefix to a list. What
+/// `copy_shortened` returns would be moved once more.
+#[cycle(copying)]
+pub fn copy_onto<K: TKey, V: TValue, S: RadixNode<K, V>, T: Build<K, V>>(
+    alloc: Global,
+    tree: &S,
+    from: usize,
+    copies: &mut Vec<T>,
+) -> Result<(), AllocError>
+    requires { from ≤ length (S.tree tree.now).prefix }
+    ensures alike { OnOk result ((copy : T) × (copies.new.items ≡ copies.old.items ++ (copy ∷ []))
+        × IsAlike V.is_clone (shortened from (S.tree tree.now)) (T.tree copy)) }
+    ensures canonical { IsCanonical K.cmp (S.tree tree.now) }
+{
+    let prefix = T::Prefix::from_slice(alloc, &tree.prefix()[from..])?;
+    let value = clone_value(tree.value())?;
+    let below = copy_list::<K, V, S, T>(alloc, tree.children())?;
+    let children = children_of::<K, V, T>(below)?;
+    copies.push(T::assemble(prefix, value, children, Seal::new()))?;
+    Ok(())
+}
+
 /// Copies of the trees of a list.
 #[cycle(copying)]
 fn copy_list<K: TKey, V: TValue, S: RadixNode<K, V>, T: Build<K, V>>(
@@ -63,7 +84,7 @@ fn copy_list<K: TKey, V: TValue, S: RadixNode<K, V>, T: Build<K, V>>(
 {
     let mut copies = Vec::with_capacity(alloc, list.len())?;
     for tree in list {
-        copies.push(copy_shortened(alloc, tree, 0)?)?;
+        copy_onto(alloc, tree, 0, &mut copies)?;
     }
     Ok(copies)
 }

@@ -101,6 +101,7 @@ impl<K: Copy> Fragment<K> for Prefix<K> {
         Prefix::as_slice(self)
     }
 
+    #[inline(always)]
     fn from_slice(alloc: Global, slice: &[K]) -> Result<Prefix<K>, AllocError> {
         let Some(first) = slice.first() else {
             return Ok(Prefix::new(alloc));
@@ -110,7 +111,10 @@ impl<K: Copy> Fragment<K> for Prefix<K> {
             return Prefix::long(alloc, Vec::from_slice(alloc, slice)?);
         }
         let mut places = [*first; 16];
-        places[..len].copy_from_slice(slice);
+        // One component is in all places already.
+        if len > 1 {
+            places[..len].copy_from_slice(slice);
+        }
         Ok(Prefix::short(alloc, len, places))
     }
 

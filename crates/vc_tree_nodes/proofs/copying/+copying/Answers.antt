@@ -10,8 +10,8 @@ use Rattle.vc_tree_nodes.proofs.Events.{low-from}
 use Rattle.vc_tree_nodes.proofs.Finding.{child-nodes}
 use Rattle.vc_tree_nodes.proofs.copying.+copying.Goals as goal
 
-pub copy_shortened-assemble-copy-requires : goal.copy_shortened-assemble-copy-requires
-copy_shortened-assemble-copy-requires g t c =
+pub copy_onto-assemble-requires : goal.copy_onto-assemble-requires
+copy_onto-assemble-requires g t c =
     let tree = g.S.RadixNode.tree c.args.tree.now in
     let made = g.T.Prefix.Fragment.items c.in_ok-prefix.prefix in
     let copies = seen g.T.RadixNode.tree (listed g.T.Children.ChildList.items c.in_ok-children.children) in
@@ -23,8 +23,8 @@ copy_shortened-assemble-copy-requires g t c =
     (node made c.in_ok-value.value copies) (prefix, value, children)
     (shortened-canonical g.K.Ord.cmp c.args.from tree c.prefix.ensures.canonical)
 
-pub copy_list-copy_shortened-requires : goal.copy_list-copy_shortened-requires
-copy_list-copy_shortened-requires g t c κs within =
+pub copy_list-copy_onto-requires : goal.copy_list-copy_onto-requires
+copy_list-copy_onto-requires g t c κs within =
     let tree = g.S.RadixNode.tree in
     let fewer : nodes (tree c.tree-item.result) ≤ forest_nodes (seen tree c.args.list.now) =
     rw c.tree-item.is (child-nodes g.K.Ord.cmp tree c.args.list.now c.loop-tree.tree-index c.tree-item.result
@@ -33,7 +33,7 @@ copy_list-copy_shortened-requires g t c κs within =
 
 pub copy_list-loop-tree-preserved : goal.copy_list-loop-tree-preserved
 copy_list-loop-tree-preserved g t c =
+    let one = c.in_ok-copy_onto.ensures.alike in
     alike-more g.V.Clone.is_clone g.S.RadixNode.tree g.T.RadixNode.tree c.args.list.now c.loop-tree.copies.items
-    c.push.new.self.items c.loop-tree.tree-index c.tree-item.result c.in_ok-copy_shortened.field-0
-    c.loop-tree-test.true c.tree-item.is c.in_ok-push.ensures.items c.loop-tree.invariant
-    c.in_ok-copy_shortened.ensures.alike
+    c.copy_onto.new.copies.items c.loop-tree.tree-index c.tree-item.result one.0 c.loop-tree-test.true c.tree-item.is
+    one.1 c.loop-tree.invariant one.2

@@ -5,8 +5,8 @@ use Rattle.vc_tree_model.specs.Tree.{nodes, forest_nodes}
 use Rattle.vc_tree_nodes.specs.Children.{seen}
 use Rattle.vc_tree_nodes.proofs.copying.+copying.Given as goal
 
-abbrev pub decreases-copy_shortened : goal.decreases-copy_shortened
-decreases-copy_shortened g l = 2 * nodes (g.S.RadixNode.tree l.tree.now)
+abbrev pub decreases-copy_onto : goal.decreases-copy_onto
+decreases-copy_onto g l = 2 * nodes (g.S.RadixNode.tree l.tree.now)
 
 abbrev pub decreases-copy_list : goal.decreases-copy_list
 decreases-copy_list g l = 2 * forest_nodes (seen g.S.RadixNode.tree l.list.now) + 1
