@@ -1,8 +1,10 @@
 -- What is left of a tree that one side alone has, where that is nothing; values that are copied; and calls of the closures of
 -- combines.
+--     copy-added        a copy was added
 --     inner-answer, outer-answer, left-answer        what a call answers
-use Rattle.std.proofs.Common.{◌≡◌, ℕ, ◌++◌, List, Option, None, Some, Result, Ok, Err, IfOk, refl, sym, arith}
-use Rattle.std.proofs.Common.{take, drop}
+use Rattle.std.proofs.Common.{◌≡◌, ℕ, ◌<◌, ◌++◌, ◌∷◌, [], List, Option, None, Some, Result, Ok, Err, IfOk, refl, sym, arith}
+use Rattle.std.proofs.Common.{take, drop, length, map}
+use Rattle.std.specs.Prelude.{OnOk}
 use Rattle.std.specs.Cmp.{IsTotalOrder}
 use Rattle.std.specs.Option.{option_copied}
 use Rattle.std.specs.declared.cmp.Ordering.{Ordering}
@@ -13,11 +15,17 @@ use Rattle.vc_tree_model.specs.Combine.{IsInnerAt, IsLeftAt, IsOuterAt, IsUnionA
 use Rattle.vc_tree_model.specs.Tree.{Tree, node, shortened}
 use Rattle.vc_tree_model.specs.Map.{node_lookup, lookup, lookup_in}
 use Rattle.vc_tree_model.specs.Value.{IsKept, Copies, itself, cloned}
-use Rattle.std.proofs.lemmas.List.{take-append-drop}
+use Rattle.std.proofs.lemmas.List.{take-append-drop, map-append}
 use Rattle.vc_tree_model.specs.Shortened.{IsShortened}
 use Rattle.vc_tree_model.specs.Same.{IsAlike}
 use Rattle.vc_tree_model.proofs.AlikeLemmas.{tree-alike_lookup}
 use Rattle.vc_tree_model.proofs.KeyLemmas.{then_behind, behind-append, behind-itself}
+use Rattle.vc_tree_model.specs.Canonical.{IsCanonical}
+use Rattle.vc_tree_model.specs.Look.{values}
+use Rattle.vc_tree_facing.specs.Made.{IsMade, IsMadeOf}
+use Rattle.vc_tree_facing.proofs.Copied.{copied-by}
+use Rattle.vc_tree_combines.specs.Making.{IsAdded}
+use Rattle.vc_tree_combines.proofs.Runs.{on-ok-too}
 
 -- a clone is a copy
 kept_copies : {V : Type 0} (is_clone : V → V → Type 0) (v z : Option V) → IsKept is_clone v z → IsKept (Copies is_clone) v z
@@ -52,6 +60,22 @@ pub intersection-value : {V W E : Type 0} (is_clone : V → V → Type 0) (v : O
     (r : Result (Option V) E) → w ≡ Some q → IfOk r (IsKept is_clone v)
     → IfOk r (IsIntersectionAt (Copies is_clone) v (option_copied w))
 intersection-value is_clone v w q r e h = grind (arith, ok-copies)
+
+-- a copy was added of what one side alone has
+pub copy-added : {K V W X M E : Type 0} (cmp : K → K → Ordering) (is_clone : X → X → Type 0) (t : Tree K X) (i : ℕ)
+    (tree : M → Tree K X) {R : Option V → Option W → Option X → Type 0} {a : Option (Tree K V)} {b : Option (Tree K W)}
+    {S : Option X → Option X → Type 0} → ((v z : Option X) → IsKept is_clone v z → S v z)
+    → ((o : Option (Tree K X)) → IsMade cmp S (shortened i t) o → IsMadeOf cmp (values cmp) R a b o) → IsCanonical cmp t
+    → i < length t.prefix → (r : Result (Unit {0}) E) (old new : List M)
+    → OnOk r ((copy : M) × (new ≡ old ++ copy ∷ []) × IsAlike is_clone (shortened i t) (tree copy))
+    → OnOk r (IsAdded cmp R a b (map tree old) (map tree new))
+copy-added cmp is_clone t i tree {S = S} kept made c within r old new h =
+    on-ok-too r
+    (λ p. record {
+      one = Some (tree p.0);
+      made = made _ (copied-by cmp is_clone t (tree p.0) i c within p.2 S kept);
+      is = rw p.1 (map-append tree old (p.0 ∷ []));
+    }) h
 
 -- what a tree binds behind the front of its prefix
 lookup-front : {K V : Type 0} (cmp : K → K → Ordering) → IsTotalOrder cmp → (t : Tree K V) (p rest k : List K)

@@ -1,8 +1,8 @@
 -- What a combine leaves of a tree where the right side has none of its keys, and the closure is called at each of its values.
 --     value-alone, below-alone        what may be asked of its parts
 --     alone-next, alone-done        the children are next one after the other, and done
---     node-alone, node-made        what is left of its node is left of it
-use Rattle.std.proofs.Common.{◌≡◌, [], ◌∷◌, List, Option, None, Some, refl, sym, subst, arith, append-nil, option_map, Result, Ok, Err, IfOk}
+--     node-alone        what is left of its node is left of it
+use Rattle.std.proofs.Common.{◌≡◌, [], ◌∷◌, List, Option, None, Some, refl, sym, subst, arith, append-nil}
 use Rattle.std.specs.Cmp.{IsTotalOrder}
 use Rattle.std.specs.declared.cmp.Ordering.{Ordering}
 use Rattle.vc_tree_model.specs.Canonical.{AreChildren}
@@ -58,14 +58,6 @@ module _ {K V W : Type 0} {cmp : K → K → Ordering} (o : IsTotalOrder cmp) (t
         begins = λ y b. begins-by cmp t.prefix v f y b;
         binds = alone-binds R none v f root m;
       })
-
-  -- and of what a call made of it
-  pub node-made : {M E : Type 0} (tree : M → Tree K V) (R : Option V → Option W → Option V → Type 0) → R None None None
-      → (v : Option V) (f : Forest K V) → R t.value None v → AreMadeOf cmp R t.children bare f → {p : List K} → p ≡ t.prefix
-      → (r : Result (Option M) E) → IfOk r (λ made. option_map tree made ≡ solid_child p v f)
-      → IfOk r (λ made. IsMade cmp (λ v z. R v None z) t (option_map tree made))
-  node-made tree R none v f root m e (Ok made) h = node-alone R none v f root m (rw e at h)
-  node-made tree R none v f root m e (Err x) h = tt
 
 module _ {K V W A : Type 0} {cmp : K → K → Ordering} {tree : A → Tree K V} {R : Option V → Option W → Option V → Type 0}
     {asks : Option V → Option W → Type 0} {xs : List A} where

@@ -1,6 +1,6 @@
 -- Trees that only one side has, one after the other, with what is left of the other side.
---     on-ok        what holds where a call succeeds
---     lefts-none, rights-none        nothing is left of any
+--     on-ok, on-ok-too        what holds where a call succeeds
+--     left-none, right-none, lefts-none, rights-none        nothing is left of a tree, or of any
 --     lefts-done, rights-done        they are done
 --     lefts-may, rights-may        and may be asked of
 --     below-next, above-next        those below the other list are next, each in turn
@@ -26,7 +26,7 @@ use Rattle.vc_tree_facing.specs.Seeking.{side_at, Stops}
 use Rattle.vc_tree_facing.specs.Sides.{by_component, by_component_total, lower_side, side_next}
 use Rattle.vc_tree_facing.specs.declared.sides.EventSide.TheVariants.{Left, Right}
 use Rattle.vc_tree_facing.proofs.Next.{doing-start, asked, done, left_within, right_within, left-next, right-next, both-next}
-use Rattle.vc_tree_combines.specs.Making.{MayAddLefts, MayAddRights, AreLeftAdded, AreRightAdded}
+use Rattle.vc_tree_combines.specs.Making.{MayAddLefts, MayAddRights, IsAdded, AreLeftAdded, AreRightAdded}
 
 module _ {A B : Type 0} (order : A ⊎ B → A ⊎ B → Ordering) where
   -- each of these is the next tree, whatever stands behind it
@@ -74,26 +74,32 @@ pub on-ok : {X E : Type 0} {P Q : Type 0} (r : Result X E) → IfOk r (λ _. P) 
 on-ok (Ok x) h f = f h
 on-ok (Err e) h f = tt
 
--- where nothing is left of any
+pub on-ok-too : {X E : Type 0} {P Q : Type 0} (r : Result X E) → (P → Q) → OnOk r P → OnOk r Q
+on-ok-too (Ok x) f h = f h
+on-ok-too (Err e) f h = tt
+
+-- where nothing is left of a tree, or of any
+pub left-none : {K V W U : Type 0} (cmp : K → K → Ordering) (R : Option V → Option W → Option U → Type 0)
+    → ((v : Option V) → R v None None) → (t : Tree K V) (made : List (Tree K U)) → IsAdded cmp R (Some t) None made made
+left-none cmp R h t made =
+    record { one = None; made = record { child = tt; begins = λ y a b. tt; binds = λ k. h _ }; is = sym (append-nil made) }
+
 pub lefts-none : {K V W U T : Type 0} (cmp : K → K → Ordering) (R : Option V → Option W → Option U → Type 0)
     → ((v : Option V) → R v None None) → (tree : T → Tree K V) (ts : List T) (made : List (Tree K U))
     → AreLeftAdded cmp R tree ts made made
 lefts-none cmp R h tree [] made = refl
-lefts-none cmp R h tree (t ∷ ts) made = (
-  made,
-  record { one = None; made = record { child = tt; begins = λ y a b. tt; binds = λ k. h _ }; is = sym (append-nil made) },
-  lefts-none cmp R h tree ts made,
-)
+lefts-none cmp R h tree (t ∷ ts) made = (made, left-none cmp R h (tree t) made, lefts-none cmp R h tree ts made)
+
+pub right-none : {K V W U : Type 0} (cmp : K → K → Ordering) (R : Option V → Option W → Option U → Type 0)
+    → ((w : Option W) → R None w None) → (t : Tree K W) (made : List (Tree K U)) → IsAdded cmp R None (Some t) made made
+right-none cmp R h t made =
+    record { one = None; made = record { child = tt; begins = λ y a b. tt; binds = λ k. h _ }; is = sym (append-nil made) }
 
 pub rights-none : {K V W U T : Type 0} (cmp : K → K → Ordering) (R : Option V → Option W → Option U → Type 0)
     → ((w : Option W) → R None w None) → (tree : T → Tree K W) (ts : List T) (made : List (Tree K U))
     → AreRightAdded cmp R tree ts made made
 rights-none cmp R h tree [] made = refl
-rights-none cmp R h tree (t ∷ ts) made = (
-  made,
-  record { one = None; made = record { child = tt; begins = λ y a b. tt; binds = λ k. h _ }; is = sym (append-nil made) },
-  rights-none cmp R h tree ts made,
-)
+rights-none cmp R h tree (t ∷ ts) made = (made, right-none cmp R h (tree t) made, rights-none cmp R h tree ts made)
 
 -- trees of the left side, whole ones
 module _ {K V W U A B : Type 0} {cmp : K → K → Ordering} {ta : A → Tree K V} {tb : B → Tree K W} {j : ℕ}

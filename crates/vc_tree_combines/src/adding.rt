@@ -1,65 +1,22 @@
 //! How a combine treats trees that only one side has.
 
-ghost use Rattle.std.specs.Prelude.{◌≡◌, ◌+◌, ◌≤◌, ◌<◌, ◌∷◌, List, None, Some, OnOk, length, map};
-ghost use Rattle.std.specs.Prelude.{slice_get};
+ghost use Rattle.std.specs.Prelude.{◌≡◌, ◌+◌, ◌≤◌, ◌++◌, [], OnOk, length, map};
+ghost use Rattle.std.specs.List.{cons_option};
 ghost use Rattle.std.specs.Option.{option_copied};
 ghost use Rattle.vc_merge.specs.Count.{digits};
 ghost use Rattle.vc_tree_model.specs.Canonical.{AreChildren};
-ghost use Rattle.vc_tree_model.specs.Map.{lookup};
-ghost use Rattle.vc_tree_model.specs.Tree.{shortened};
+ghost use Rattle.vc_tree_model.specs.Child.{solid_child};
 ghost use Rattle.vc_tree_nodes.specs.Children.{seen};
 ghost use Rattle.vc_tree_combines.specs.Making.{MayAddLefts, MayAddRights};
-ghost use Rattle.vc_tree_combines.specs.Making.{IsAdded, AreLeftAdded, AreRightAdded, IsAround};
+ghost use Rattle.vc_tree_combines.specs.Making.{AreLeftAdded, AreRightAdded, IsAround};
 
 use crate::operation::Combine;
 use std::alloc::{AllocError, Global};
 use vc_merge::merge::Count;
-use vc_tree_facing::nodes::keep;
+use vc_tree_nodes::building::Build;
+use vc_tree_nodes::making::{new_joined, new_node};
 use vc_tree_nodes::places::child_place;
 use vc_tree_nodes::reading::{RadixNode, TKey, TValue};
-
-/// Appends what is left of a tree that only the left side has, without the first `from` components
-/// of its prefix.
-#[inline(always)]
-pub fn add_left<
-    K: TKey,
-    V: TValue,
-    W: TValue,
-    A: RadixNode<K, V>,
-    B: RadixNode<K, W>,
-    O: Combine<K, V, W, A, B>,
->(alloc: Global, tree: &A, from: usize, op: &O, made: &mut Vec<O::Made>) -> Result<(), AllocError>
-    requires within { from < length (A.tree tree.now).prefix }
-    requires asks { (k : List K)
-        → O.asks op.now (lookup K.cmp (shortened from (A.tree tree.now)) k) None }
-    ensures { OnOk result (IsAdded K.cmp (O.says op.now) (Some (shortened from (A.tree tree.now)))
-        None (map O.Made.tree made.old.items) (map O.Made.tree made.new.items)) }
-{
-    let one = op.left_alone(alloc, tree, from)?;
-    keep(made, one)
-}
-
-/// Appends what is left of a tree that only the right side has, without the first `from` components
-/// of its prefix.
-#[inline(always)]
-pub fn add_right<
-    K: TKey,
-    V: TValue,
-    W: TValue,
-    A: RadixNode<K, V>,
-    B: RadixNode<K, W>,
-    O: Combine<K, V, W, A, B>,
->(alloc: Global, tree: &B, from: usize, op: &O, made: &mut Vec<O::Made>) -> Result<(), AllocError>
-    requires within { from < length (B.tree tree.now).prefix }
-    requires asks { (k : List K)
-        → O.asks op.now None (lookup K.cmp (shortened from (B.tree tree.now)) k) }
-    ensures { OnOk result (IsAdded K.cmp (O.says op.now) None
-        (Some (shortened from (B.tree tree.now))) (map O.Made.tree made.old.items)
-        (map O.Made.tree made.new.items)) }
-{
-    let one = op.right_alone(alloc, tree, from)?;
-    keep(made, one)
-}
 
 /// Appends what is left of trees that only the left side has. Visits none where the operation keeps
 /// nothing of them.
@@ -81,7 +38,7 @@ pub fn add_lefts<
     }
     let mut rest = trees;
     while let Some((tree, others)) = rest.split_first() {
-        add_left(alloc, tree, 0, op, made)?;
+        op.add_left(alloc, tree, 0, made)?;
         rest = others;
     }
     Ok(())
@@ -107,9 +64,32 @@ pub fn add_rights<
     }
     let mut rest = trees;
     while let Some((tree, others)) = rest.split_first() {
-        add_right(alloc, tree, 0, op, made)?;
+        op.add_right(alloc, tree, 0, made)?;
         rest = others;
     }
+    Ok(())
+}
+
+/// Appends the node of these parts as a child: none where it binds no key, and one that is merged
+/// with its only child where it has no value.
+pub fn finish_onto<K: TKey, V: TValue, M: Build<K, V>>(
+    alloc: Global,
+    prefix: &[K],
+    value: Option<V>,
+    mut kids: Vec<M>,
+    made: &mut Vec<M>,
+) -> Result<(), AllocError>
+    requires { AreChildren K.cmp (seen M.tree kids.items) }
+    ensures { OnOk result (map M.tree made.new.items ≡ map M.tree made.old.items
+        ++ cons_option (solid_child prefix.now value (seen M.tree kids.items)) []) }
+{
+    if value.is_none() && kids.len() < 2 {
+        if let Some(kid) = kids.pop() {
+            made.push(new_joined(alloc, prefix, kid)?)?;
+        }
+        return Ok(());
+    }
+    made.push(new_node(alloc, prefix, value, kids)?)?;
     Ok(())
 }
 

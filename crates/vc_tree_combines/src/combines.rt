@@ -13,7 +13,6 @@ ghost use Rattle.vc_tree_model.specs.Same.{IsAlike};
 ghost use Rattle.vc_tree_model.specs.Shortened.{weight, IsShortened};
 ghost use Rattle.vc_tree_model.specs.Tree.{shortened};
 ghost use Rattle.vc_tree_model.specs.Value.{Copies};
-ghost use Rattle.vc_tree_facing.specs.Made.{IsMade};
 
 use crate::engine::combine_whole;
 use crate::operation::Combine;
@@ -22,7 +21,7 @@ use std::marker::PhantomData;
 use vc_merge::merge::Count;
 use vc_merge::states::Uncounted;
 use vc_tree_nodes::building::Build;
-use vc_tree_nodes::copying::{clone_value, copy_shortened};
+use vc_tree_nodes::copying::{clone_value, copy_onto, copy_shortened};
 use vc_tree_nodes::reading::{RadixNode, TKey, TValue};
 
 /// Keeps the shared keys, with the answers of a closure.
@@ -72,12 +71,24 @@ impl<
         }
     }
 
-    fn left_alone(&self, alloc: Global, tree: &A, from: usize) -> Result<Option<M>, AllocError> {
-        Ok(None)
+    fn add_left(
+        &self,
+        alloc: Global,
+        tree: &A,
+        from: usize,
+        made: &mut Vec<M>,
+    ) -> Result<(), AllocError> {
+        Ok(())
     }
 
-    fn right_alone(&self, alloc: Global, tree: &B, from: usize) -> Result<Option<M>, AllocError> {
-        Ok(None)
+    fn add_right(
+        &self,
+        alloc: Global,
+        tree: &B,
+        from: usize,
+        made: &mut Vec<M>,
+    ) -> Result<(), AllocError> {
+        Ok(())
     }
 }
 
@@ -128,12 +139,24 @@ impl<
         }
     }
 
-    fn left_alone(&self, alloc: Global, tree: &A, from: usize) -> Result<Option<M>, AllocError> {
-        Ok(Some(copy_shortened(alloc, tree, from)?))
+    fn add_left(
+        &self,
+        alloc: Global,
+        tree: &A,
+        from: usize,
+        made: &mut Vec<M>,
+    ) -> Result<(), AllocError> {
+        copy_onto(alloc, tree, from, made)
     }
 
-    fn right_alone(&self, alloc: Global, tree: &B, from: usize) -> Result<Option<M>, AllocError> {
-        Ok(Some(copy_shortened(alloc, tree, from)?))
+    fn add_right(
+        &self,
+        alloc: Global,
+        tree: &B,
+        from: usize,
+        made: &mut Vec<M>,
+    ) -> Result<(), AllocError> {
+        copy_onto(alloc, tree, from, made)
     }
 }
 
@@ -177,12 +200,24 @@ impl<K: TKey, V: TValue, A: RadixNode<K, V>, B: RadixNode<K, V>, M: Build<K, V>>
         }
     }
 
-    fn left_alone(&self, alloc: Global, tree: &A, from: usize) -> Result<Option<M>, AllocError> {
-        Ok(Some(copy_shortened(alloc, tree, from)?))
+    fn add_left(
+        &self,
+        alloc: Global,
+        tree: &A,
+        from: usize,
+        made: &mut Vec<M>,
+    ) -> Result<(), AllocError> {
+        copy_onto(alloc, tree, from, made)
     }
 
-    fn right_alone(&self, alloc: Global, tree: &B, from: usize) -> Result<Option<M>, AllocError> {
-        Ok(Some(copy_shortened(alloc, tree, from)?))
+    fn add_right(
+        &self,
+        alloc: Global,
+        tree: &B,
+        from: usize,
+        made: &mut Vec<M>,
+    ) -> Result<(), AllocError> {
+        copy_onto(alloc, tree, from, made)
     }
 }
 
@@ -226,12 +261,24 @@ impl<K: TKey, V: TValue, W: TValue, A: RadixNode<K, V>, B: RadixNode<K, W>, M: B
         }
     }
 
-    fn left_alone(&self, alloc: Global, tree: &A, from: usize) -> Result<Option<M>, AllocError> {
-        Ok(None)
+    fn add_left(
+        &self,
+        alloc: Global,
+        tree: &A,
+        from: usize,
+        made: &mut Vec<M>,
+    ) -> Result<(), AllocError> {
+        Ok(())
     }
 
-    fn right_alone(&self, alloc: Global, tree: &B, from: usize) -> Result<Option<M>, AllocError> {
-        Ok(None)
+    fn add_right(
+        &self,
+        alloc: Global,
+        tree: &B,
+        from: usize,
+        made: &mut Vec<M>,
+    ) -> Result<(), AllocError> {
+        Ok(())
     }
 }
 
@@ -275,12 +322,24 @@ impl<K: TKey, V: TValue, W: TValue, A: RadixNode<K, V>, B: RadixNode<K, W>, M: B
         }
     }
 
-    fn left_alone(&self, alloc: Global, tree: &A, from: usize) -> Result<Option<M>, AllocError> {
-        Ok(Some(copy_shortened(alloc, tree, from)?))
+    fn add_left(
+        &self,
+        alloc: Global,
+        tree: &A,
+        from: usize,
+        made: &mut Vec<M>,
+    ) -> Result<(), AllocError> {
+        copy_onto(alloc, tree, from, made)
     }
 
-    fn right_alone(&self, alloc: Global, tree: &B, from: usize) -> Result<Option<M>, AllocError> {
-        Ok(None)
+    fn add_right(
+        &self,
+        alloc: Global,
+        tree: &B,
+        from: usize,
+        made: &mut Vec<M>,
+    ) -> Result<(), AllocError> {
+        Ok(())
     }
 }
 

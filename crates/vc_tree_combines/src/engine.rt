@@ -1,8 +1,10 @@
 //! The one recursion of all combines that build a tree.
 
-ghost use Rattle.std.specs.Prelude.{◌≡◌, ◌+◌, ◌-◌, ◌*◌, ◌<◌, ◌≤◌, List, [], ◌∷◌, Option, Some, IfOk};
+ghost use Rattle.std.specs.Prelude.{◌≡◌, ◌+◌, ◌-◌, ◌*◌, ◌<◌, ◌≤◌, ◌++◌, List, [], ◌∷◌, Option, Some};
+ghost use Rattle.std.specs.Prelude.{IfOk};
 ghost use Rattle.std.specs.Prelude.{IfSome, OnOk, drop, take, length, map, option_map};
 ghost use Rattle.std.proofs.Common.{inl, inr};
+ghost use Rattle.std.specs.List.{cons_option};
 ghost use Rattle.std.specs.Option.{option_copied, option_to_list};
 ghost use Rattle.vc_tree_model.specs.Canonical.{AreChildren, IsCanonical};
 ghost use Rattle.vc_tree_model.specs.Child.{value_at as node_value};
@@ -15,20 +17,19 @@ ghost use Rattle.vc_tree_nodes.specs.Children.{seen};
 ghost use Rattle.vc_tree_nodes.specs.Parting.{Agree};
 ghost use Rattle.vc_tree_facing.specs.Doing.{AreNext, IsDoing, IsSaidIn, IsSaidOf};
 ghost use Rattle.vc_tree_facing.specs.Facing.{shortened_in};
-ghost use Rattle.vc_tree_facing.specs.Made.{IsBothMade};
 ghost use Rattle.vc_tree_facing.specs.Sides.{by_component, side_next};
 ghost use Rattle.vc_tree_facing.specs.declared.sides.EventSide.TheVariants.{Left, Right};
 ghost use Rattle.vc_tree_combines.specs.Ended.{IsEnded};
 ghost use Rattle.vc_tree_combines.specs.Making.{IsAdded, AreMadeOf, IsMadeBelow};
 
-use crate::adding::{add_left, add_lefts, add_right, add_rights, look_around};
+use crate::adding::{add_lefts, add_rights, finish_onto, look_around};
 use crate::kids::{Kids, MakeAlone, merge_to_pair, take_pair};
 use crate::operation::{Combine, room_for};
 use std::alloc::{AllocError, Global};
 use std::marker::PhantomData;
 use vc_merge::merge::Count;
 use vc_merge::plan::plan_of;
-use vc_tree_facing::nodes::{finish, keep, value_at};
+use vc_tree_facing::nodes::{finish, value_at};
 use vc_tree_nodes::building::{Build, Seal};
 use vc_tree_nodes::parting::{Parting, find_parting};
 use vc_tree_nodes::reading::{RadixNode, TKey, TValue, canonical};
@@ -96,6 +97,46 @@ fn end<
     Ok(made)
 }
 
+/// Appends the result of the combine of two trees after equal fronts of their prefixes to a list.
+/// What `end` returns would be moved several times on the way there.
+fn end_onto<
+    K: TKey,
+    V: TValue,
+    W: TValue,
+    A: RadixNode<K, V>,
+    B: RadixNode<K, W>,
+    O: Combine<K, V, W, A, B>,
+>(
+    alloc: Global,
+    a: &A,
+    i: usize,
+    b: &B,
+    j: usize,
+    front: usize,
+    op: &O,
+    kids: Vec<O::Made>,
+    made: &mut Vec<O::Made>,
+) -> Result<(), AllocError>
+    requires left { i ≤ length (A.tree a.now).prefix }
+    requires right { j ≤ length (B.tree b.now).prefix }
+    requires left_front { front ≤ length (drop i (A.tree a.now).prefix) }
+    requires right_front { front ≤ length (drop j (B.tree b.now).prefix) }
+    requires asks { O.asks op.now
+        (node_value (shortened i (A.tree a.now)) (drop front (drop i (A.tree a.now).prefix)))
+        (node_value (shortened j (B.tree b.now)) (drop front (drop j (B.tree b.now).prefix))) }
+    requires children { AreChildren K.cmp (seen O.Made.tree kids.items) }
+    ensures { OnOk result ((one : Option _)
+        × IsEnded (O.says op.now (node_value (shortened i (A.tree a.now))
+        (drop front (drop i (A.tree a.now).prefix)))
+        (node_value (shortened j (B.tree b.now)) (drop front (drop j (B.tree b.now).prefix))))
+        (take front (drop i (A.tree a.now).prefix)) (seen O.Made.tree kids.items) one
+        × (map O.Made.tree made.new.items ≡ map O.Made.tree made.old.items ++ cons_option one [])) }
+{
+    let prefix = &a.prefix()[i..];
+    let value = combine_values(a, i, b, j, front, op)?;
+    finish_onto(alloc, &prefix[..front], value, kids, made)
+}
+
 /// What is left of two trees, each without the front of its prefix, where the left one continues
 /// with a lesser component.
 fn make_lower<
@@ -117,8 +158,8 @@ fn make_lower<
         (seen O.Made.tree made.items)) }
 {
     let mut made = Vec::with_capacity(alloc, room_for::<K, V, W, A, B, O>(op, 1, 1))?;
-    add_left::<K, V, W, A, B, O>(alloc, a, i, op, &mut made)?;
-    add_right::<K, V, W, A, B, O>(alloc, b, j, op, &mut made)?;
+    op.add_left(alloc, a, i, &mut made)?;
+    op.add_right(alloc, b, j, &mut made)?;
     Ok(made)
 }
 
@@ -143,8 +184,8 @@ fn make_higher<
         (seen O.Made.tree made.items)) }
 {
     let mut made = Vec::with_capacity(alloc, room_for::<K, V, W, A, B, O>(op, 1, 1))?;
-    add_right::<K, V, W, A, B, O>(alloc, b, j, op, &mut made)?;
-    add_left::<K, V, W, A, B, O>(alloc, a, i, op, &mut made)?;
+    op.add_right(alloc, b, j, &mut made)?;
+    op.add_left(alloc, a, i, &mut made)?;
     Ok(made)
 }
 
@@ -326,10 +367,10 @@ struct Opened<M> {
     kids: Vec<M>,
 }
 
-/// The combine of two trees, each without the front of its prefix: `None` where no key is left. The
-/// first `known` components that are left of either prefix are known to agree.
+/// Appends the combine of two trees, each without the front of its prefix. The first `known`
+/// components that are left of either prefix are known to agree.
 #[cycle(combining)]
-pub fn combine_at<
+fn combine_onto<
     K: TKey,
     V: TValue,
     W: TValue,
@@ -345,22 +386,24 @@ pub fn combine_at<
     j: usize,
     known: usize,
     op: &O,
+    made: &mut Vec<O::Made>,
     steps: &mut C,
-) -> Result<Option<O::Made>, AllocError>
+) -> Result<(), AllocError>
     requires left { i ≤ length (A.tree a.now).prefix }
     requires right { j ≤ length (B.tree b.now).prefix }
     requires known { Agree K.cmp (drop i (A.tree a.now).prefix)
         (drop j (B.tree b.now).prefix) known }
     requires asks { (k : List K) → O.asks op.now (lookup K.cmp (shortened i (A.tree a.now)) k)
         (lookup K.cmp (shortened j (B.tree b.now)) k) }
-    ensures made { IfOk result (λ made. IsBothMade K.cmp (O.says op.now)
-        (shortened i (A.tree a.now)) (shortened j (B.tree b.now)) (option_map O.Made.tree made)) }
+    ensures added { OnOk result (IsAdded K.cmp (O.says op.now)
+        (Some (shortened i (A.tree a.now))) (Some (shortened j (B.tree b.now)))
+        (map O.Made.tree made.old.items) (map O.Made.tree made.new.items)) }
     ensures counted { C.counted steps.new + 2
         ≤ C.counted steps.old + 3
         * (weight (shortened i (A.tree a.now)) + weight (shortened j (B.tree b.now))) }
 {
     let Opened { front, kids } = combine_below(alloc, a, i, b, j, known, op, steps)?;
-    end(alloc, a, i, b, j, front, op, kids)
+    end_onto(alloc, a, i, b, j, front, op, kids, made)
 }
 
 /// The combine of the trees below the place where two prefixes diverge: that of `a` without its
@@ -541,17 +584,15 @@ fn combine_one<
         + forest_weight (shortened_in B.tree j rights)) }
 {
     match (a, b) {
-        (Some(x), Some(y)) => {
-            let one = combine_at(alloc, x, i, y, j, 1, op, steps)?;
-            keep(made, one)
-        }
-        (Some(x), None) => add_left::<K, V, W, A, B, O>(alloc, x, i, op, made),
-        (None, Some(y)) => add_right::<K, V, W, A, B, O>(alloc, y, j, op, made),
+        (Some(x), Some(y)) => combine_onto(alloc, x, i, y, j, 1, op, made, steps),
+        (Some(x), None) => op.add_left(alloc, x, i, made),
+        (None, Some(y)) => op.add_right(alloc, y, j, made),
         (None, None) => Ok(()),
     }
 }
 
-/// The combine of the children of two nodes. All merges use the plan of the two whole lists.
+/// The combine of the children of two nodes. All merges use the plan of the two whole lists. Two
+/// nodes without children need no merge.
 #[cycle(combining)]
 fn combine_kids<
     K: TKey,
@@ -577,6 +618,9 @@ fn combine_kids<
     ensures counted { C.counted steps.new ≤ C.counted steps.old + 3
         * (forest_weight (seen A.tree lefts.now) + forest_weight (seen B.tree rights.now)) }
 {
+    if lefts.is_empty() && rights.is_empty() {
+        return Ok(Vec::new(alloc));
+    }
     let room = room_for::<K, V, W, A, B, O>(op, lefts.len(), rights.len());
     let mut state = Kids {
         left: lefts,
@@ -595,8 +639,7 @@ fn combine_kids<
     let plan = plan_of(lefts.len(), rights.len());
     merge_to_pair(&mut state, &alone, plan, steps)?;
     'pairs: while let Some((x, y)) = take_pair(&mut state) {
-        let kid = combine_at(alloc, x, 0, y, 0, 1, op, steps)?;
-        keep(&mut state.made, kid)?;
+        combine_onto(alloc, x, 0, y, 0, 1, op, &mut state.made, steps)?;
         merge_to_pair(&mut state, &alone, plan, steps)?;
     }
     Ok(state.made)
@@ -621,7 +664,8 @@ pub fn combine_whole<
         ≤ C.counted steps.old + 3 * (weight (A.tree this.now) + weight (B.tree that.now)) }
 {
     let alloc = this.allocator();
-    let made = match combine_at(alloc, this, 0, that, 0, 0, op, steps)? {
+    let Opened { front, kids } = combine_below(alloc, this, 0, that, 0, 0, op, steps)?;
+    let made = match end(alloc, this, 0, that, 0, front, op, kids)? {
         Some(tree) => tree,
         None => O::Made::blank(alloc, Seal::new()),
     };

@@ -1,20 +1,21 @@
 //! The combine that calls a closure at each key of the left tree.
 
-ghost use Rattle.std.specs.Prelude.{◌<◌, ◌≡◌, List, Option, None, Ok, IfOk, false, length, option_map, refl};
+ghost use Rattle.std.specs.Prelude.{◌<◌, ◌≡◌, List, Option, None, Some, Ok, IfOk, OnOk, false, length};
+ghost use Rattle.std.specs.Prelude.{map, refl};
 ghost use Rattle.std.specs.Option.{option_copied};
 ghost use Rattle.vc_tree_model.specs.Asking.{MayAnswerAt, CanAskAt};
 ghost use Rattle.vc_tree_model.specs.Combine.{IsCombined, IsLeftAt};
 ghost use Rattle.vc_tree_model.specs.Map.{lookup};
 ghost use Rattle.vc_tree_model.specs.Canonical.{IsCanonical};
 ghost use Rattle.vc_tree_model.specs.Tree.{shortened};
-ghost use Rattle.vc_tree_facing.specs.Made.{IsMade};
+ghost use Rattle.vc_tree_combines.specs.Making.{IsAdded};
 
+use crate::adding::finish_onto;
 use crate::engine::combine_whole;
 use crate::operation::Combine;
 use std::alloc::{AllocError, Global};
 use std::marker::PhantomData;
 use vc_merge::states::Uncounted;
-use vc_tree_facing::nodes::{finish, keep};
 use vc_tree_nodes::building::Build;
 use vc_tree_nodes::reading::{RadixNode, TKey, TValue};
 
@@ -63,32 +64,45 @@ impl<
         }
     }
 
-    fn left_alone(&self, alloc: Global, tree: &A, from: usize) -> Result<Option<M>, AllocError> {
-        ask_alone(alloc, tree, from, self.answer)
+    fn add_left(
+        &self,
+        alloc: Global,
+        tree: &A,
+        from: usize,
+        made: &mut Vec<M>,
+    ) -> Result<(), AllocError> {
+        ask_onto(alloc, tree, from, self.answer, made)
     }
 
-    fn right_alone(&self, alloc: Global, tree: &B, from: usize) -> Result<Option<M>, AllocError> {
-        Ok(None)
+    fn add_right(
+        &self,
+        alloc: Global,
+        tree: &B,
+        from: usize,
+        made: &mut Vec<M>,
+    ) -> Result<(), AllocError> {
+        Ok(())
     }
 }
 
-/// What a closure keeps of a tree where the right tree has none of its keys, without the first
-/// `from` components of its prefix. It is called at each value.
+/// Appends what a closure keeps of a tree where the right tree has none of its keys, without the
+/// first `from` components of its prefix. It is called at each value.
 #[cycle(asking)]
-fn ask_alone<
+fn ask_onto<
     K: TKey,
     V: TValue,
     W: TValue,
     A: RadixNode<K, V>,
     M: Build<K, V>,
     F: Fn(&V, Option<&W>) -> Result<Option<V>, AllocError>,
->(alloc: Global, tree: &A, from: usize, answer: &F) -> Result<Option<M>, AllocError>
+>(alloc: Global, tree: &A, from: usize, answer: &F, made: &mut Vec<M>) -> Result<(), AllocError>
     requires within { from < length (A.tree tree.now).prefix }
     requires asks { (k : List K)
         → CanAskAt F.Fn answer.now (lookup K.cmp (shortened from (A.tree tree.now)) k) None }
-    ensures { IfOk result (λ made. IsMade K.cmp
-        (λ v z. IsLeftAt (λ v w z. MayAnswerAt F.Fn answer.now v w (Ok z)) v None z)
-        (shortened from (A.tree tree.now)) (option_map M.tree made)) }
+    ensures { OnOk result (IsAdded K.cmp
+        (IsLeftAt (λ v w z. MayAnswerAt F.Fn answer.now v w (Ok z)))
+        (Some (shortened from (A.tree tree.now))) None (map M.tree made.old.items)
+        (map M.tree made.new.items)) }
 {
     let prefix = tree.prefix();
     let value = ask_value(tree.value(), answer)?;
@@ -96,11 +110,10 @@ fn ask_alone<
     let mut kids = Vec::with_capacity(alloc, trees.len())?;
     let mut rest = trees;
     while let Some((child, others)) = rest.split_first() {
-        let kid = ask_alone(alloc, child, 0, answer)?;
-        keep(&mut kids, kid)?;
+        ask_onto(alloc, child, 0, answer, &mut kids)?;
         rest = others;
     }
-    finish(alloc, &prefix[from..], value, kids)
+    finish_onto(alloc, &prefix[from..], value, kids, made)
 }
 
 /// The answer of a closure to a value whose key the right tree does not bind.

@@ -1,10 +1,10 @@
 //! How a combine that builds a tree treats values, and trees that only one side has.
 
-ghost use Rattle.std.specs.Prelude.{◌≡◌, ◌<◌, List, Option, None, IfOk, false, length, option_map};
+ghost use Rattle.std.specs.Prelude.{◌≡◌, ◌<◌, List, Option, None, Some, IfOk, OnOk, false, length, map};
 ghost use Rattle.std.specs.Option.{option_copied};
 ghost use Rattle.vc_tree_model.specs.Map.{lookup};
 ghost use Rattle.vc_tree_model.specs.Tree.{shortened};
-ghost use Rattle.vc_tree_facing.specs.Made.{IsMade};
+ghost use Rattle.vc_tree_combines.specs.Making.{IsAdded};
 
 use std::alloc::{AllocError, Global};
 use vc_tree_facing::facing::expected;
@@ -36,33 +36,37 @@ pub trait Combine<K: TKey, V: TValue, W: TValue, A: RadixNode<K, V>, B: RadixNod
         requires { asks self.now (option_copied v) (option_copied w) }
         ensures { IfOk result (says self.now (option_copied v.entry) (option_copied w.entry)) };
 
-    /// What is left of a tree that only the left side has, without the first `from` components of
-    /// its prefix.
-    fn left_alone(
+    /// Appends what is left of a tree that only the left side has, without the first `from`
+    /// components of its prefix. A tree that is returned would be moved once more.
+    fn add_left(
         &self,
         alloc: Global,
         tree: &A,
         from: usize,
-    ) -> Result<Option<Self::Made>, AllocError>
+        made: &mut Vec<Self::Made>,
+    ) -> Result<(), AllocError>
         requires within { from < length (A.tree tree.now).prefix }
         requires asks { (k : List K)
             → asks self.now (lookup K.cmp (shortened from (A.tree tree.now)) k) None }
-        ensures { IfOk result (λ made. IsMade K.cmp (λ v z. says self.now v None z)
-            (shortened from (A.tree tree.now)) (option_map Self.Made.tree made)) };
+        ensures { OnOk result (IsAdded K.cmp (says self.now)
+            (Some (shortened from (A.tree tree.now))) None
+            (map Self.Made.tree made.old.items) (map Self.Made.tree made.new.items)) };
 
-    /// What is left of a tree that only the right side has, without the first `from` components of
-    /// its prefix.
-    fn right_alone(
+    /// Appends what is left of a tree that only the right side has, without the first `from`
+    /// components of its prefix.
+    fn add_right(
         &self,
         alloc: Global,
         tree: &B,
         from: usize,
-    ) -> Result<Option<Self::Made>, AllocError>
+        made: &mut Vec<Self::Made>,
+    ) -> Result<(), AllocError>
         requires within { from < length (B.tree tree.now).prefix }
         requires asks { (k : List K)
             → asks self.now None (lookup K.cmp (shortened from (B.tree tree.now)) k) }
-        ensures { IfOk result (λ made. IsMade K.cmp (λ w z. says self.now None w z)
-            (shortened from (B.tree tree.now)) (option_map Self.Made.tree made)) };
+        ensures { OnOk result (IsAdded K.cmp (says self.now) None
+            (Some (shortened from (B.tree tree.now)))
+            (map Self.Made.tree made.old.items) (map Self.Made.tree made.new.items)) };
 
     /// A key that neither tree binds is not bound by the result.
     ghost says_none: { (op : Self) → says op None None None };

@@ -6,7 +6,6 @@ use Rattle.vc_tree_model.proofs.Shortening.{shortened-canonical}
 use Rattle.vc_tree_nodes.specs.Children.{seen}
 use Rattle.vc_tree_facing.specs.Sides.{by_component, by_component_total}
 use Rattle.vc_tree_facing.proofs.Ending.{front-asked, below-children}
-use Rattle.vc_tree_facing.proofs.Leaving.{if-ok}
 use Rattle.vc_tree_facing.proofs.Next.{both-next, asked, done, meets, all-done, left-fewer, right-fewer, MayMeet, at-most}
 use Rattle.vc_tree_facing.proofs.Opening.{slice-from}
 use Rattle.vc_tree_combines.proofs.Inside.{next-agree, next-left_within, next-right_within}
@@ -15,27 +14,31 @@ use Rattle.std.specs.Option.{option_copied, option_to_list}
 use Rattle.vc_tree_model.specs.Canonical.{AreChildren}
 use Rattle.vc_tree_combines.proofs.Shapes.{go-within, apart-faced, inside-faced, within-faced, both-faced, apart-side}
 use Rattle.vc_tree_combines.proofs.Shapes.{asked-below, made-below, below-made}
-use Rattle.vc_tree_combines.proofs.Runs.{on-ok}
+use Rattle.vc_tree_combines.proofs.Runs.{on-ok-too}
 use Rattle.vc_tree_combines.proofs.Stopped.{pair-next, pair-end, pair-behind, owed-begun, owed-spent, owed-merged, owed-pair}
 use Rattle.vc_tree_combines.proofs.engine.+combining.Goals as goal
 
 -- ---- one node
 
-pub combine_at-combine_below-requires : goal.combine_at-combine_below-requires
-combine_at-combine_below-requires g t c κs within = search rules
+pub combine_onto-combine_below-requires : goal.combine_onto-combine_below-requires
+combine_onto-combine_below-requires g t c κs within = search rules
 
-pub combine_at-end-requires-clause-asks : goal.combine_at-end-requires-clause-asks
-combine_at-end-requires-clause-asks g t c =
+pub combine_onto-end_onto-requires-clause-asks : goal.combine_onto-end_onto-requires-clause-asks
+combine_onto-end_onto-requires-clause-asks g t c =
     let m = c.in_ok-front.ensures.made in
     front-asked g.met.K.Ord.total (values g.K.Ord.cmp) (shortened c.args.i (g.A.RadixNode.tree c.args.a.now))
     (shortened c.args.j (g.B.RadixNode.tree c.args.b.now)) _ m.agree.same (g.O.Combine.asks c.args.op.now) c.requires.asks []
 
-pub combine_at-returns-clause-made : goal.combine_at-returns-clause-made
-combine_at-returns-clause-made g t c =
-    if-ok c.end.result
-    (λ made h. below-made g.met.K.Ord.total (g.O.Combine.says c.args.op.now) (g.met.O.Combine.says_none c.args.op.now)
-    c.in_ok-front.ensures.made h.value h.said h.child)
-    c.end.ensures
+pub combine_onto-returns-clause-added : goal.combine_onto-returns-clause-added
+combine_onto-returns-clause-added g t c =
+    on-ok-too c.end_onto.result
+    (λ h. record {
+      one = h.0;
+      made = below-made g.met.K.Ord.total (g.O.Combine.says c.args.op.now) (g.met.O.Combine.says_none c.args.op.now)
+          c.in_ok-front.ensures.made h.1.value h.1.said h.1.child;
+      is = h.2;
+    })
+    c.end_onto.ensures
 
 -- ---- by the shape
 
@@ -226,8 +229,8 @@ combine_within-end_within-requires-clause-left g t c = c.in_ok-made.ensures.left
 
 -- ---- the next trees
 
-pub combine_one-combine_at-requires : goal.combine_one-combine_at-requires
-combine_one-combine_at-requires g t c κs within =
+pub combine_one-combine_onto-requires : goal.combine_one-combine_onto-requires
+combine_one-combine_onto-requires g t c κs within =
     let ea : c.args.a ≡ Some c.in-Some-Some.x = search rules in
     let eb : c.args.b ≡ Some c.in-Some-Some.y = search rules in
     let left = rw ea at c.requires.left in
@@ -257,13 +260,11 @@ combine_one-add_right-requires-clause-asks g t c =
     let eb : c.args.b ≡ Some c.in-None-Some.y = search rules in
     rw (ea, eb) at c.requires.asks
 
-pub combine_one-returns-in_ok-one-in-Some-Some-clause-added :
-    goal.combine_one-returns-in_ok-one-in-Some-Some-clause-added
-combine_one-returns-in_ok-one-in-Some-Some-clause-added g t c =
+pub combine_one-returns-in-Some-Some-clause-added : goal.combine_one-returns-in-Some-Some-clause-added
+combine_one-returns-in-Some-Some-clause-added g t c =
     let ea : c.args.a ≡ Some c.in-Some-Some.x = search rules in
     let eb : c.args.b ≡ Some c.in-Some-Some.y = search rules in
-    rw (ea, eb)
-    (on-ok c.keep.result c.keep.ensures (λ e. record { one = _; made = c.in_ok-one-in-Some-Some.ensures.made; is = e }))
+    rw (ea, eb) c.combine_onto.ensures.added
 
 -- ---- the children
 
@@ -285,7 +286,8 @@ combine_kids-merge_to_pair-requires-in-Some-clause-doing g t c =
     let z =
     pair-next (by_component g.A.RadixNode.tree g.B.RadixNode.tree 0 0 g.K.Ord.cmp)
     (by_component_total g.A.RadixNode.tree g.B.RadixNode.tree 0 0 g.met.K.Ord.total) _ _ _ _ _ _ _ run.pair e.0 e.1 in
-    done (both-next run.doing z e.0 e.1) (rw c.take_pair.ensures.made at c.in_ok-keep.ensures) c.in_ok-kid.ensures.made
+    let added = rw c.take_pair.ensures.made at c.in_ok-combine_onto.ensures.added in
+    done (both-next run.doing z e.0 e.1) added.is added.made
 
 pub combine_kids-pairs-smaller : goal.combine_kids-pairs-smaller
 combine_kids-pairs-smaller g t c =
@@ -300,7 +302,7 @@ combine_kids-pairs-preserved g t c =
     let e = c.in-Some.ensures.pair in
     let w =
     owed-pair g.A.RadixNode.tree g.B.RadixNode.tree _ _ _ _ _ _ _ _ _ _ e.0 e.1
-    (pair-behind (by_component g.A.RadixNode.tree g.B.RadixNode.tree 0 0 g.K.Ord.cmp) _ _ _ _ _ _ _ run.pair e.0 e.1) c.combine_at.ensures.counted in
+    (pair-behind (by_component g.A.RadixNode.tree g.B.RadixNode.tree 0 0 g.K.Ord.cmp) _ _ _ _ _ _ _ run.pair e.0 e.1) c.combine_onto.ensures.counted in
     let one = c.in_ok-merge_to_pair-2.ensures in
     record {
       doing = one.doing;
@@ -322,22 +324,13 @@ combine_kids-returns-in_err-merge_to_pair-clause-counted g t c =
     owed-spent g.A.RadixNode.tree g.B.RadixNode.tree _ _ _ _ _ _
     (owed-begun g.A.RadixNode.tree g.B.RadixNode.tree _ _ _ _ _ c.plan_of-plan.ensures.planned) c.merge_to_pair.ensures.counted
 
-pub combine_kids-returns-in_err-kid-clause-counted : goal.combine_kids-returns-in_err-kid-clause-counted
-combine_kids-returns-in_err-kid-clause-counted g t c =
+pub combine_kids-returns-in_err-combine_onto-clause-counted : goal.combine_kids-returns-in_err-combine_onto-clause-counted
+combine_kids-returns-in_err-combine_onto-clause-counted g t c =
     let run = c.pairs.invariant in
     let e = c.in-Some.ensures.pair in
     let w =
     owed-pair g.A.RadixNode.tree g.B.RadixNode.tree _ _ _ _ _ _ _ _ _ _ e.0 e.1
-    (pair-behind (by_component g.A.RadixNode.tree g.B.RadixNode.tree 0 0 g.K.Ord.cmp) _ _ _ _ _ _ _ run.pair e.0 e.1) c.combine_at.ensures.counted in
-    owed-spent g.A.RadixNode.tree g.B.RadixNode.tree _ _ _ _ _ _ w (omega arith)
-
-pub combine_kids-returns-in_err-keep-clause-counted : goal.combine_kids-returns-in_err-keep-clause-counted
-combine_kids-returns-in_err-keep-clause-counted g t c =
-    let run = c.pairs.invariant in
-    let e = c.in-Some.ensures.pair in
-    let w =
-    owed-pair g.A.RadixNode.tree g.B.RadixNode.tree _ _ _ _ _ _ _ _ _ _ e.0 e.1
-    (pair-behind (by_component g.A.RadixNode.tree g.B.RadixNode.tree 0 0 g.K.Ord.cmp) _ _ _ _ _ _ _ run.pair e.0 e.1) c.combine_at.ensures.counted in
+    (pair-behind (by_component g.A.RadixNode.tree g.B.RadixNode.tree 0 0 g.K.Ord.cmp) _ _ _ _ _ _ _ run.pair e.0 e.1) c.combine_onto.ensures.counted in
     owed-spent g.A.RadixNode.tree g.B.RadixNode.tree _ _ _ _ _ _ w (omega arith)
 
 pub combine_kids-returns-in_err-merge_to_pair-2-clause-counted : goal.combine_kids-returns-in_err-merge_to_pair-2-clause-counted
@@ -346,11 +339,11 @@ combine_kids-returns-in_err-merge_to_pair-2-clause-counted g t c =
     let e = c.in-Some.ensures.pair in
     let w =
     owed-pair g.A.RadixNode.tree g.B.RadixNode.tree _ _ _ _ _ _ _ _ _ _ e.0 e.1
-    (pair-behind (by_component g.A.RadixNode.tree g.B.RadixNode.tree 0 0 g.K.Ord.cmp) _ _ _ _ _ _ _ run.pair e.0 e.1) c.combine_at.ensures.counted in
+    (pair-behind (by_component g.A.RadixNode.tree g.B.RadixNode.tree 0 0 g.K.Ord.cmp) _ _ _ _ _ _ _ run.pair e.0 e.1) c.combine_onto.ensures.counted in
     owed-spent g.A.RadixNode.tree g.B.RadixNode.tree _ _ _ _ _ _ w c.merge_to_pair-in-Some.ensures.counted
 
-pub combine_kids-combine_at-requires : goal.combine_kids-combine_at-requires
-combine_kids-combine_at-requires g t c κs within =
+pub combine_kids-combine_onto-requires : goal.combine_kids-combine_onto-requires
+combine_kids-combine_onto-requires g t c κs within =
     let run = c.pairs.invariant in
     let e = c.in-Some.ensures.pair in
     let z =

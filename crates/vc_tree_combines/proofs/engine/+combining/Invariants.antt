@@ -11,8 +11,8 @@ use Rattle.vc_tree_facing.specs.Sides.{by_component}
 use Rattle.vc_tree_combines.specs.Stopping.{IsAtPair}
 use Rattle.vc_tree_combines.proofs.engine.+combining.Given as goal
 
-abbrev pub decreases-combine_at : goal.decreases-combine_at
-decreases-combine_at g l = 4 * (nodes (g.A.RadixNode.tree l.a.now) + nodes (g.B.RadixNode.tree l.b.now)) + 3
+abbrev pub decreases-combine_onto : goal.decreases-combine_onto
+decreases-combine_onto g l = 4 * (nodes (g.A.RadixNode.tree l.a.now) + nodes (g.B.RadixNode.tree l.b.now)) + 3
 
 abbrev pub decreases-combine_below : goal.decreases-combine_below
 decreases-combine_below g l = 4 * (nodes (g.A.RadixNode.tree l.a.now) + nodes (g.B.RadixNode.tree l.b.now)) + 2

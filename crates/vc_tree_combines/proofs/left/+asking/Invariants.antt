@@ -7,8 +7,8 @@ use Rattle.vc_tree_model.specs.Tree.{Tree, nodes}
 use Rattle.vc_tree_facing.specs.Doing.{IsDoing}
 use Rattle.vc_tree_combines.proofs.left.+asking.Given as goal
 
-abbrev pub decreases-ask_alone : goal.decreases-ask_alone
-decreases-ask_alone g l = nodes (g.A.RadixNode.tree l.tree.now)
+abbrev pub decreases-ask_onto : goal.decreases-ask_onto
+decreases-ask_onto g l = nodes (g.A.RadixNode.tree l.tree.now)
 
 abbrev pub invariant-loop-child : goal.invariant-loop-child
 invariant-loop-child g l = record {
