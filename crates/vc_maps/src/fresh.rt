@@ -6,7 +6,6 @@ ghost use Rattle.std.specs.List.{AllByRecursion};
 ghost use Rattle.std.specs.Option.{MatchOption};
 ghost use Rattle.std.specs.Ordering.{is_le, is_ge};
 ghost use Rattle.vc_joins.specs.declared.question.OuterJoinArg.TheVariants as arg;
-ghost use Rattle.vc_joins.specs.Answers.{seen, seen_left, seen_right, seen_inner, MayAnswer, MayAnswerLeft, MayAnswerRight, MayAnswerInner};
 ghost use Rattle.vc_joins.specs.Entries.{AscendsByKey};
 ghost use Rattle.vc_joins.specs.Events.{AnswerAdds};
 ghost use Rattle.vc_joins.specs.Join.{ClonedKey, IsAsked, IsJoin};
@@ -22,7 +21,7 @@ use smallvec::SmallVec;
 use std::alloc::{AllocError, Allocator};
 use std::cmp::Ordering;
 use std::default::MadeWith;
-use vc_joins::answers::{AskInner, AskLeft, AskOuter, AskRight, Question};
+use vc_joins::answers::Question;
 use vc_joins::question::{JoinKind, OuterJoinArg};
 use vc_merge::choosing::part;
 use vc_merge::merge::{Count, MergeState, MergeStateMut, Uncounted, merge};
@@ -467,120 +466,4 @@ where
         (λ a r. Q.may question.now a (Ok r)) (ClonedKey K.is_clone) v.items) }
 {
     join(alloc, this, that, JoinKind::Outer, question, &mut Uncounted)
-}
-
-/// The outer join by a closure.
-pub fn join_outer<
-    K: Ord + Clone + Drop,
-    V,
-    W,
-    X: Drop,
-    F: Fn(OuterJoinArg<&K, &V, &W>) -> Result<Option<X>, AllocError>,
-    const N: usize,
-    A: Allocator + Copy,
->(alloc: A, this: &[(K, V)], that: &[(K, W)], f: &F) -> Result<SmallVec<(K, X), N, A>, AllocError>
-where
-    (K, X): MadeWith<A>,
-    requires this_ascends { AscendsByKey K.cmp this.now }
-    requires that_ascends { AscendsByKey K.cmp that.now }
-    requires clones { ClonesAreEqual K.cmp K.is_clone }
-    requires callable { (a : _)
-        → IsAsked K.cmp JoinKind.Outer left_spelling this.now that.now (seen a) → F.pre f.now a }
-    ensures joins { IfOk result (λ v. IsJoin K.cmp JoinKind.Outer left_spelling this.now that.now
-        (λ a r. MayAnswer F.Fn f.now a (Ok r)) (ClonedKey K.is_clone) v.items) }
-{
-    join_asking(alloc, this, that, &AskOuter(f))
-}
-
-/// The left join by a closure.
-pub fn join_left<
-    K: Ord + Clone + Drop,
-    V,
-    W,
-    X: Drop,
-    F: Fn(&K, &V, Option<&W>) -> Result<Option<X>, AllocError>,
-    const N: usize,
-    A: Allocator + Copy,
->(alloc: A, this: &[(K, V)], that: &[(K, W)], f: &F) -> Result<SmallVec<(K, X), N, A>, AllocError>
-where
-    (K, X): MadeWith<A>,
-    requires this_ascends { AscendsByKey K.cmp this.now }
-    requires that_ascends { AscendsByKey K.cmp that.now }
-    requires clones { ClonesAreEqual K.cmp K.is_clone }
-    requires callable { (k : _) (v : _) (w : _)
-        → IsAsked K.cmp JoinKind.Left left_spelling this.now that.now (seen_left k v w)
-        → F.pre f.now k v w }
-    ensures joins { IfOk result (λ v. IsJoin K.cmp JoinKind.Left left_spelling this.now that.now
-        (λ a r. MayAnswerLeft F.Fn f.now a (Ok r)) (ClonedKey K.is_clone) v.items) }
-{
-    join(
-        alloc,
-        this,
-        that,
-        JoinKind::Left,
-        &AskLeft(f),
-        &mut Uncounted,
-    )
-}
-
-/// The right join by a closure.
-pub fn join_right<
-    K: Ord + Clone + Drop,
-    V,
-    W,
-    X: Drop,
-    F: Fn(&K, Option<&V>, &W) -> Result<Option<X>, AllocError>,
-    const N: usize,
-    A: Allocator + Copy,
->(alloc: A, this: &[(K, V)], that: &[(K, W)], f: &F) -> Result<SmallVec<(K, X), N, A>, AllocError>
-where
-    (K, X): MadeWith<A>,
-    requires this_ascends { AscendsByKey K.cmp this.now }
-    requires that_ascends { AscendsByKey K.cmp that.now }
-    requires clones { ClonesAreEqual K.cmp K.is_clone }
-    requires callable { (k : _) (v : _) (w : _)
-        → IsAsked K.cmp JoinKind.Right left_spelling this.now that.now (seen_right k v w)
-        → F.pre f.now k v w }
-    ensures joins { IfOk result (λ v. IsJoin K.cmp JoinKind.Right left_spelling this.now that.now
-        (λ a r. MayAnswerRight F.Fn f.now a (Ok r)) (ClonedKey K.is_clone) v.items) }
-{
-    join(
-        alloc,
-        this,
-        that,
-        JoinKind::Right,
-        &AskRight(f),
-        &mut Uncounted,
-    )
-}
-
-/// The inner join by a closure.
-pub fn join_inner<
-    K: Ord + Clone + Drop,
-    V,
-    W,
-    X: Drop,
-    F: Fn(&K, &V, &W) -> Result<Option<X>, AllocError>,
-    const N: usize,
-    A: Allocator + Copy,
->(alloc: A, this: &[(K, V)], that: &[(K, W)], f: &F) -> Result<SmallVec<(K, X), N, A>, AllocError>
-where
-    (K, X): MadeWith<A>,
-    requires this_ascends { AscendsByKey K.cmp this.now }
-    requires that_ascends { AscendsByKey K.cmp that.now }
-    requires clones { ClonesAreEqual K.cmp K.is_clone }
-    requires callable { (k : _) (v : _) (w : _)
-        → IsAsked K.cmp JoinKind.Inner left_spelling this.now that.now (seen_inner k v w)
-        → F.pre f.now k v w }
-    ensures joins { IfOk result (λ v. IsJoin K.cmp JoinKind.Inner left_spelling this.now that.now
-        (λ a r. MayAnswerInner F.Fn f.now a (Ok r)) (ClonedKey K.is_clone) v.items) }
-{
-    join(
-        alloc,
-        this,
-        that,
-        JoinKind::Inner,
-        &AskInner(f),
-        &mut Uncounted,
-    )
 }

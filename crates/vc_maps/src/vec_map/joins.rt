@@ -8,12 +8,12 @@ ghost use Rattle.vc_merge.specs.Count.{bound};
 ghost use Rattle.vc_merge.specs.Clones.{ClonesAreEqual};
 
 use super::{AbstractVecMap, VecMap};
-use crate::fresh::{join, join_inner, join_left, join_outer, join_right};
+use crate::fresh::join;
 use std::alloc::{AllocError, Allocator};
 use std::default::MadeWith;
-use vc_joins::answers::AskOuter;
+use vc_joins::answers::{AskInner, AskLeft, AskOuter, AskRight};
 use vc_joins::question::{JoinKind, OuterJoinArg};
-use vc_merge::merge::Steps;
+use vc_merge::merge::{Steps, Uncounted};
 
 /// Calls `f` at each key of either map, and binds the key to the answer, if there is one.
 ///
@@ -55,7 +55,9 @@ where
     ensures values { IfOk result (λ c. (h : _) → AnswersBy F.Fn f h
         → JoinsValues K.cmp (in_either h) (L.pairs this.now) (M.pairs that.now) c) }
 {
-    let pairs = join_outer(alloc, this.as_slice(), that.as_slice(), &f)?;
+    let (left, right) = (this.as_slice(), that.as_slice());
+    let ask = AskOuter(&f);
+    let pairs = join(alloc, left, right, JoinKind::Outer, &ask, &mut Uncounted)?;
     Ok(VecMap { pairs })
 }
 
@@ -92,7 +94,9 @@ where
     ensures values { IfOk result (λ c. (h : _) → AnswersLeftBy F.Fn f h
         → JoinsValues K.cmp (in_left h) (L.pairs this.now) (M.pairs that.now) c) }
 {
-    let pairs = join_left(alloc, this.as_slice(), that.as_slice(), &f)?;
+    let (left, right) = (this.as_slice(), that.as_slice());
+    let ask = AskLeft(&f);
+    let pairs = join(alloc, left, right, JoinKind::Left, &ask, &mut Uncounted)?;
     Ok(VecMap { pairs })
 }
 
@@ -129,7 +133,9 @@ where
     ensures values { IfOk result (λ c. (h : _) → AnswersRightBy F.Fn f h
         → JoinsValues K.cmp (in_right h) (L.pairs this.now) (M.pairs that.now) c) }
 {
-    let pairs = join_right(alloc, this.as_slice(), that.as_slice(), &f)?;
+    let (left, right) = (this.as_slice(), that.as_slice());
+    let ask = AskRight(&f);
+    let pairs = join(alloc, left, right, JoinKind::Right, &ask, &mut Uncounted)?;
     Ok(VecMap { pairs })
 }
 
@@ -164,7 +170,9 @@ where
     ensures values { IfOk result (λ c. (h : _) → AnswersInnerBy F.Fn f h
         → JoinsValues K.cmp (in_both h) (L.pairs this.now) (M.pairs that.now) c) }
 {
-    let pairs = join_inner(alloc, this.as_slice(), that.as_slice(), &f)?;
+    let (left, right) = (this.as_slice(), that.as_slice());
+    let ask = AskInner(&f);
+    let pairs = join(alloc, left, right, JoinKind::Inner, &ask, &mut Uncounted)?;
     Ok(VecMap { pairs })
 }
 

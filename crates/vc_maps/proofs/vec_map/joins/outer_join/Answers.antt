@@ -5,7 +5,7 @@ use Rattle.vc_maps.proofs.Asking.{functions-join}
 use Rattle.vc_maps.proofs.vec_map.joins.outer_join.Goals as goal
 
 pub returns-clause-joins : goal.returns-clause-joins
-returns-clause-joins g c = rw (c.as_slice.ensures.pairs, c.as_slice-2.ensures.pairs) at c.in_ok-pairs.ensures.joins
+returns-clause-joins g c = rw (c.as_slice-left.ensures.pairs, c.as_slice-right.ensures.pairs) at c.in_ok-pairs.ensures.joins
 
 pub returns-clause-function : goal.returns-clause-function
 returns-clause-function g c = functions-join g.K.Ord.cmp Outer (returns-clause-joins g c)
