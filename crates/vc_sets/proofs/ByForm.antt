@@ -2,17 +2,16 @@
 --     member-equal, element-equal        an element that is equal to the form is found as the form is
 --     ordered        an ascending list is ordered round a form
 --     element_at-without_form, element_at-no_form        an element removed
-use Rattle.std.proofs.Common.{◌≡◌, ℕ, zero, suc, ◌<◌, Bool, false, cond, List, [], ◌∷◌, ◌++◌, length}
-use Rattle.std.proofs.Common.{take, drop, get_or, ◌⊎◌, None, refl, sym, ap, ◌∙◌, arith}
+use Rattle.std.proofs.Common.{◌≡◌, ℕ, zero, suc, ◌<◌, Bool, true, false, cond, List, [], ◌∷◌, ◌++◌, length}
+use Rattle.std.proofs.Common.{take, drop, get_or, ◌⊎◌, inl, inr, None, refl, arith}
 use Rattle.std.specs.List.{AllByRecursion}
 use Rattle.std.specs.List.Sorted.{IsStrictlySortedBy}
 use Rattle.std.specs.Cmp.{IsTotalOrder, tied_itself}
-use Rattle.std.specs.Ordering.{eq_by_cmp, is_eq, is_lt}
+use Rattle.std.specs.Ordering.{is_eq, is_lt}
 use Rattle.std.specs.declared.cmp.Ordering.{Ordering}
 use Rattle.std.specs.declared.cmp.Ordering.TheVariants.{Less, Equal, Greater}
 use Rattle.vc_merge.specs.Ascending.{Ascends, member, element_at}
 use Rattle.vc_merge.specs.Place.{IsFound, IsGap, IsOrdered}
-use Rattle.vc_merge.proofs.ListLemmas.{each-weaker}
 use Rattle.vc_merge.proofs.Members.{equal-from_is_eq}
 use Rattle.vc_sets.specs.Borrowed.{member_by, element_by}
 use Rattle.vc_sets.proofs.Searching.{gap-element}
@@ -40,45 +39,35 @@ module _ {K : Type 0} (cmp : K → K → Ordering) (side : K → Ordering)
   -- ---- a list is ordered round a form
 
   module _ (total : IsTotalOrder cmp) (behind : (x y : K) → side x ≡ Greater → cmp x y ≡ Less → side y ≡ Greater) where
-    behind-by : (x : K) (o : Ordering) → side x ≡ o → is_lt o ≡ false → (y : K) → cmp x y ≡ Less → side y ≡ Greater
-    behind-by x o e f y l = grind arith
-
     module _ {X : Type 0} (key : X → K) where
-      all-behind : (x : X) (o : Ordering) → side (key x) ≡ o → is_lt o ≡ false → (ys : List X)
+      all-behind : (x : X) → is_lt (side (key x)) ≡ false → (ys : List X)
           → AllByRecursion (λ y. cmp (key x) (key y) ≡ Less) ys → AllByRecursion (λ y. side (key y) ≡ Greater) ys
-      all-behind x o e f ys = grind (arith, each-weaker, behind-by)
+      all-behind x f [] p = tt
+      all-behind x f (y ∷ ys) p = grind (arith, all-behind x f ys p.1, equal, behind)
 
-      beside : (x : X) (ys : List X) (o : Ordering) → side (key x) ≡ o
+      beside : (x : X) (ys : List X) (b : Bool) → is_lt (side (key x)) ≡ b
           → AllByRecursion (λ y. cmp (key x) (key y) ≡ Less) ys
           → (side (key x) ≡ Less) ⊎ AllByRecursion (λ y. side (key y) ≡ Greater) ys
-      beside x ys o e p = grind (arith, all-behind)
+      beside x ys true e p = inl (grind arith)
+      beside x ys false e p = inr (all-behind x e ys p)
 
       -- a list that ascends by its keys is ordered round a form of keys
       pub ordered : (xs : List X) → Ascends (λ x y. cmp (key x) (key y)) xs → IsOrdered (λ x. side (key x)) xs
       unfolding IsStrictlySortedBy
       ordered [] p = tt
-      ordered (x ∷ xs) p = (beside x xs (side (key x)) refl p.0, ordered xs p.1)
+      ordered (x ∷ xs) p = (beside x xs _ refl p.0, ordered xs p.1)
 
   -- ---- an element taken out
 
   module _ (total : IsTotalOrder cmp) where
-    -- what is equal to the form is equal to an element that is
-    alike : (x z : K) → side x ≡ Equal → eq_by_cmp cmp x z ≡ is_eq (side z)
-    alike x z e = grind arith
-
     -- what stands where, without the element that is equal to the form
     pub element_at-without_form : (xs : List K) (i : ℕ) → IsFound side xs i → Ascends cmp xs → (z : K)
         → element_at cmp (take i xs ++ drop (suc i) xs) z ≡ cond (is_eq (side z)) None (element_at cmp xs z)
     element_at-without_form xs i f p z =
         let r = at-place xs i f.within in
-        element_at-without cmp total xs r.0 i f.within (λ d. ap (λ y. cmp y r.0) (r.1 d) ∙ tied_itself total r.0) p z
-        ∙ ap (λ b. cond b None (element_at cmp xs z)) (alike r.0 z (ap side (sym (r.1 r.0)) ∙ f.equal r.0))
-
-  nothing-by : (b : Bool) (xs : List K) (i : ℕ) (z : K) → IsGap side xs i → is_eq (side z) ≡ b
-      → element_at cmp xs z ≡ cond b None (element_at cmp xs z)
-  nothing-by b xs i z g e = grind (arith, element-equal, equal-from_is_eq, gap-element)
+        grind (arith, element_at-without cmp total xs r.0 i f.within, r.1, tied_itself total r.0, f.equal r.0, equal r.0 z)
 
   -- what stands where, if no element is equal to the form
   pub element_at-no_form : (xs : List K) (i : ℕ) → IsGap side xs i → (z : K)
       → element_at cmp xs z ≡ cond (is_eq (side z)) None (element_at cmp xs z)
-  element_at-no_form xs i g z = grind (arith, nothing-by)
+  element_at-no_form xs i g z = grind (arith, element-equal xs z, equal-from_is_eq, gap-element side xs i g)

@@ -1,5 +1,5 @@
 -- A merge whose operation keeps what a set operation keeps leaves the result of that operation on the two lists.
-use Rattle.std.proofs.Common.{◌≡◌, ℕ, Bool, false, List, [], ◌∷◌, ◌++◌, take, Ok, ◌⊎◌, refl, sym, ap, subst, ◌∙◌, arith}
+use Rattle.std.proofs.Common.{◌≡◌, ℕ, Bool, false, List, [], ◌∷◌, take, Ok, ◌⊎◌, refl, sym, subst, arith}
 use Rattle.std.specs.Cmp.{IsTotalOrder}
 use Rattle.std.specs.declared.cmp.Ordering.{Ordering}
 use Rattle.std.specs.declared.cmp.Ordering.TheVariants.{Equal}
@@ -7,7 +7,7 @@ use Rattle.vc_merge.specs.Script.{collision}
 use Rattle.vc_merge.specs.Chain.{Answer, Allows, Finishes, Stops}
 use Rattle.vc_merge.specs.Both.{Both}
 use Rattle.vc_merge.specs.Building.{Advances, Skips}
-use Rattle.vc_merge.specs.Gathering.{Gathers, GivesIf, IsBuilt, Adds, IsBuilding}
+use Rattle.vc_merge.specs.Gathering.{Gathers, GivesIf, Adds, IsBuilding}
 use Rattle.vc_merge.proofs.Builds.{advances-adds, adds-one, both-adds, merged-builds}
 use Rattle.vc_sets.specs.SetOf.{IsSetOf}
 use Rattle.vc_sets.specs.Select.{both_sides, keeps, KeptAt}
@@ -16,14 +16,6 @@ use Rattle.vc_sets.proofs.Selected.{set-of}
 module _ {X : Type 0} (cmp : X → X → Ordering) (total : IsTotalOrder cmp) (L R : X → X → Type 0)
     (left_equal : (x z : X) → L x z → cmp x z ≡ Equal) (right_equal : (x z : X) → R x z → cmp x z ≡ Equal)
     (left right both : Bool) where
-  -- what was built from nothing
-  built-set_of : (a b c old : List X) → old ≡ []
-      → IsBuilt (both_sides cmp) (KeptAt (keeps left right both) L R) a b old c → IsSetOf cmp L R (keeps left right both) a b c
-  built-set_of a b c old e h =
-      let added : c ≡ h.appends.added = h.appends.items ∙ ap (λ l. l ++ h.appends.added) e in
-      set-of cmp total L R left_equal right_equal (keeps left right both) refl a b c h.events h.script
-      (subst (λ l. Gathers (KeptAt (keeps left right both) L R) h.events l) (sym added) h.appends.gathered)
-
   module _ {M N : Type 0} (built : M → List X) (name : M → N) (op : Allows M X X) (first second : M → Answer → M → Type 0)
       (from_a : (s t : M) (n : ℕ) (answer : Answer) → op.gives.from_a s n answer t
       → Advances built name L op.left s n left answer t)
@@ -38,26 +30,18 @@ module _ {X : Type 0} (cmp : X → X → Ordering) (total : IsTotalOrder cmp) (L
     takes-left s t answer x y xs e h =
         adds-one built name (λ z. GivesIf both (L z)) (KeptAt (keeps left right both) L R) x (collision x y)
         (λ zs k. k) s t answer
-        (subst (λ l. Adds built name (λ z. GivesIf both (L z)) (take 1 l) s answer t) e
-        (advances-adds built name L op.left s t 1 both answer (takes s t answer h)))
+        (rw e at (advances-adds built name L op.left s t 1 both answer (takes s t answer h)))
 
     is-building : IsBuilding built name op (KeptAt (keeps left right both) L R)
     is-building = grind (arith, advances-adds, both-adds, takes-left)
-
-    -- what a merge that was not refused has built, behind what was built before
-    pub merged-built : {s t : M} {a b old c : List X}
-        → Finishes op (both_sides cmp) s t ⊎ Stops op (both_sides cmp) s (Ok false) t
-        → op.left s ≡ a → op.right s ≡ b → built s ≡ old → (name t ≡ name s → c ≡ built t)
-        → IsBuilt (both_sides cmp) (KeptAt (keeps left right both) L R) a b old c
-    merged-built {s} {t} {a} {b} {old} {c} m l r e k =
-        let w = merged-builds built name op (KeptAt (keeps left right both) L R) is-building (both_sides cmp) s t m in
-        subst (λ z. IsBuilt (both_sides cmp) (KeptAt (keeps left right both) L R) a b old z) (sym (k w.0))
-        (subst (λ z. IsBuilt (both_sides cmp) (KeptAt (keeps left right both) L R) a b z (built t)) e
-        (subst (λ z. IsBuilt (both_sides cmp) (KeptAt (keeps left right both) L R) a z (built s) (built t)) r
-        (subst (λ z. IsBuilt (both_sides cmp) (KeptAt (keeps left right both) L R) z (op.right s) (built s) (built t)) l w.1)))
 
     -- what a merge leaves that was not refused
     pub merged-set_of : (s t : M) (a b c : List X) → Finishes op (both_sides cmp) s t ⊎ Stops op (both_sides cmp) s (Ok false) t
         → op.left s ≡ a → op.right s ≡ b → built s ≡ [] → (name t ≡ name s → c ≡ built t)
         → IsSetOf cmp L R (keeps left right both) a b c
-    merged-set_of s t a b c m l r e k = built-set_of a b c [] refl (merged-built {old = []} m l r e k)
+    merged-set_of s t a b c m l r e k =
+        let w = merged-builds built name op (KeptAt (keeps left right both) L R) is-building (both_sides cmp) s t m in
+        let h = rw (l, r, e) at w.1 in
+        rw (k w.0)
+        (set-of cmp total L R left_equal right_equal (keeps left right both) refl a b (built t) h.events h.script
+        (subst (λ z. Gathers (KeptAt (keeps left right both) L R) h.events z) (sym h.appends.items) h.appends.gathered))

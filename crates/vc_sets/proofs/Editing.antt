@@ -1,6 +1,6 @@
 -- An ascending list with an element inserted, replaced or removed.
 use Rattle.std.proofs.Common.{◌≡◌, ℕ, zero, suc, ◌<◌, Bool, true, false, not, cond, ◌||◌, List, [], ◌∷◌, ◌++◌, length}
-use Rattle.std.proofs.Common.{take, drop, get_or, insert, set, Option, Some, is_some, refl, sym, ap, subst, ◌∙◌, arith}
+use Rattle.std.proofs.Common.{take, drop, get_or, insert, set, Some, arith}
 use Rattle.std.proofs.Math.ListN.{take-append-drop}
 use Rattle.std.specs.List.{AllByRecursion}
 use Rattle.std.specs.List.Sorted.{IsStrictlySortedBy}
@@ -50,9 +50,9 @@ module _ {X : Type 0} (cmp : X → X → Ordering) (total : IsTotalOrder cmp) wh
   pub ascends-insert : (xs ys : List X) (x : X) (i : ℕ) → IsGap (λ y. cmp y x) xs i → Ascends cmp xs → ys
       ≡ insert xs i x → Ascends cmp ys
   ascends-insert xs ys x i p q e =
-      let parts : Ascends cmp (take i xs ++ drop i xs) = subst (λ l. Ascends cmp l) (sym (take-append-drop i xs)) q in
-      subst (λ l. Ascends cmp l) (sym e) (ascends-between (take i xs) x (drop i xs) (ascends-front (take i xs) (drop i xs) parts)
-      p.less (ascends-append cmp (take i xs) (drop i xs) parts) (gap-above cmp total xs x i p))
+      let parts : Ascends cmp (take i xs ++ drop i xs) = rw take-append-drop q in
+      rw e (ascends-between (take i xs) x (drop i xs) (ascends-front (take i xs) (drop i xs) parts) p.less
+      (ascends-append cmp (take i xs) (drop i xs) parts) (gap-above cmp total xs x i p))
 
   inserted-by : (b : Bool) (xs : List X) (x z : X) (i : ℕ) → AllByRecursion (λ y. cmp y x ≡ Less) (take i xs)
       → eq_by_cmp cmp x z ≡ b
@@ -71,44 +71,29 @@ module _ {X : Type 0} (cmp : X → X → Ordering) (total : IsTotalOrder cmp) wh
   unfolding IsStrictlySortedBy
   ascends-set [] x i h p = tt
   ascends-set (y ∷ ys) x zero h p =
-      (each-weaker (λ z. cmp y z ≡ Less) (λ z. cmp x z ≡ Less) (λ z k. sym (total.congr y x z (h.1 x)) ∙ k) ys p.0, p.1)
+      grind (arith, h.1 x, each-weaker (λ z. cmp y z ≡ Less) (λ z. cmp x z ≡ Less) (λ z k. grind (arith, total.congr y x z (h.1 x))) ys p.0)
   ascends-set (y ∷ ys) x (suc i) h p =
-      let k : i < length ys = omega (arith, h.0) in (
-        each-set (λ z. cmp y z ≡ Less) ys i x
-            (sym (alike_right total (get_or ys i x) x y (h.1 x)) ∙ each-at (λ z. cmp y z ≡ Less) ys i x k p.0)
-            p.0,
-        ascends-set ys x i (k, h.1) p.1,
-      )
-
-  replaced-by : (b : Bool) (x y z : X) (o : Option X) → cmp y x ≡ Equal → eq_by_cmp cmp x z ≡ b → cond b (Some x) o
-      ≡ cond b (Some x) (cond (eq_by_cmp cmp y z) (Some y) o)
-  replaced-by b x y z o e f = grind arith
-
-  passed-by : (b : Bool) (x y z : X) (o : Option X) → cmp y x ≡ Less → eq_by_cmp cmp x z ≡ b
-      → cond (eq_by_cmp cmp y z) (Some y) (cond b (Some x) o) ≡ cond b (Some x) (cond (eq_by_cmp cmp y z) (Some y) o)
-  passed-by b x y z o e f = grind arith
+      let k : i < length ys = omega (arith, h.0) in
+      let a = alike_right total (get_or ys i x) x y (h.1 x) in
+      let b = each-at (λ z. cmp y z ≡ Less) ys i x k p.0 in
+      grind (arith, each-set (λ z. cmp y z ≡ Less) ys i x, a, b, ascends-set ys x i (k, h.1) p.1)
 
   pub element_at-set : (xs : List X) (x : X) (i : ℕ) → StandsAt cmp xs x i → Ascends cmp xs → (z : X)
       → element_at cmp (set xs i x) z ≡ cond (eq_by_cmp cmp x z) (Some x) (element_at cmp xs z)
   unfolding IsStrictlySortedBy
   element_at-set [] x i h p z = absurd (omega (arith, h.0))
-  element_at-set (y ∷ ys) x zero h p z = replaced-by (eq_by_cmp cmp x z) x y z (element_at cmp ys z) (h.1 x) refl
+  element_at-set (y ∷ ys) x zero h p z = grind (arith, h.1 x)
   element_at-set (y ∷ ys) x (suc i) h p z =
       let k : i < length ys = omega (arith, h.0) in
-      let below : cmp y x ≡ Less = sym (alike_right total (get_or ys i x) x y (h.1 x))
-      ∙ each-at (λ z. cmp y z ≡ Less) ys i x k p.0 in
-      ap (λ o. cond (eq_by_cmp cmp y z) (Some y) o) (element_at-set ys x i (k, h.1) p.1 z)
-      ∙ passed-by (eq_by_cmp cmp x z) x y z (element_at cmp ys z) below refl
+      let a = alike_right total (get_or ys i x) x y (h.1 x) in
+      let b = each-at (λ z. cmp y z ≡ Less) ys i x k p.0 in grind (arith, a, b, element_at-set ys x i (k, h.1) p.1 z)
 
   -- ---- members follow from what is kept
-
-  some-by : (b : Bool) (x : X) (o : Option X) → is_some (cond b (Some x) o) ≡ (b || is_some o)
-  some-by b x o = grind arith
 
   pub members-put : (xs ys : List X) (x : X) → ((z : X)
       → element_at cmp ys z ≡ cond (eq_by_cmp cmp x z) (Some x) (element_at cmp xs z)) → (z : X)
       → member cmp ys z ≡ (eq_by_cmp cmp x z || member cmp xs z)
-  members-put xs ys x h z = grind (arith, member-is_some, some-by)
+  members-put xs ys x h z = grind (arith, member-is_some, h z)
 
   -- ---- the answer
 

@@ -6,42 +6,24 @@ use Rattle.std.specs.declared.cmp.Ordering.{Ordering}
 use Rattle.vc_sets.specs.SetOf.{IsSetOf, and_not}
 use Rattle.vc_sets.specs.Select.{keeps}
 
--- `L` and `R` relate what is kept to the left and to the right element that it is kept of
-module _ {X : Type 0} (f g : Bool → Bool → Bool) (same : (x y : Bool) → f x y ≡ g x y) (L R : X → X → Type 0) where
-  -- operations that say the same
-  set_of-same : (cmp : X → X → Ordering) (a b c : List X) → IsSetOf cmp L R f a b c → IsSetOf cmp L R g a b c
-  set_of-same cmp a b c s = grind arith
-
 -- `keeps` of an intersection, and of a difference
-keeps-and : (x y : Bool) → keeps (not true) false true x y ≡ (x && y)
+pub keeps-and : (x y : Bool) → keeps (not true) false true x y ≡ (x && y)
 keeps-and x y = grind arith
 
-keeps-and_not : (x y : Bool) → keeps (not false) false false x y ≡ and_not x y
+pub keeps-and_not : (x y : Bool) → keeps (not false) false false x y ≡ and_not x y
 keeps-and_not x y = grind arith
 
-module _ {X : Type 0} (cmp : X → X → Ordering) (L R : X → X → Type 0) where
+-- `L` and `R` relate what is kept to the left and to the right element that it is kept of
+module _ {X : Type 0} (cmp : X → X → Ordering) (L R : X → X → Type 0) (f g : Bool → Bool → Bool)
+    (same : (x y : Bool) → f x y ≡ g x y) where
+  -- operations that say the same
+  set_of-same : (a b c : List X) → IsSetOf cmp L R f a b c → IsSetOf cmp L R g a b c
+  set_of-same a b c s = grind arith
+
   -- the list was written through its slice, and cut off behind what was kept
-  sifted : (f : Bool → Bool → Bool) (v : SmallVec X) (view those that lent written new : List X) (kept : ℕ) → v.items
-      ≡ view → lent ≡ v.items → those ≡ that → length written ≡ length lent
+  pub sifted : (v : SmallVec X) {view those that lent : List X} (written : List X) {new : List X} (kept : ℕ)
+      → v.items ≡ view → lent ≡ v.items → those ≡ that → length written ≡ length lent
       → new ≡ take kept (with_items v written).items → IsSetOf cmp L R f lent those (take kept written)
-      → IsSetOf cmp L R f view that new
-  sifted f v view those that lent written new kept a b c l e s = grind (arith, items-with_items)
-
-  pub sifted-and : (v : SmallVec X) {view those that lent : List X} (written : List X) {new : List X} (kept : ℕ) → v.items ≡
-      view → lent
-      ≡ v.items → those ≡ that → length written ≡ length lent
-      → new ≡ take kept (with_items v written).items
-      → IsSetOf cmp L R (keeps (not true) false true) lent those (take kept written) → IsSetOf cmp L R ◌&&◌ view that new
-  sifted-and v {view} {those} {that} {lent} written {new} kept a b c l e s = set_of-same (keeps (not true) false true) ◌&&◌
-      keeps-and L R
-      cmp view that new (sifted (keeps (not true) false true) v view those that lent written new kept a b c l e s)
-
-  pub sifted-and_not : (v : SmallVec X) {view those that lent : List X} (written : List X) {new : List X} (kept : ℕ) → v.items ≡
-      view
-      → lent ≡ v.items → those ≡ that → length written ≡ length lent
-      → new ≡ take kept (with_items v written).items
-      → IsSetOf cmp L R (keeps (not false) false false) lent those (take kept written) → IsSetOf cmp L R and_not view that new
-  sifted-and_not v {view} {those} {that} {lent} written {new} kept a b c l e s = set_of-same (keeps (not false) false false)
-      and_not
-      keeps-and_not L R cmp view that new
-      (sifted (keeps (not false) false false) v view those that lent written new kept a b c l e s)
+      → IsSetOf cmp L R g view that new
+  sifted v {view} {those} {that} {lent} written {new} kept a b c l e s =
+      set_of-same view that new (grind (arith, items-with_items))

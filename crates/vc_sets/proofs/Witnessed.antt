@@ -1,6 +1,6 @@
 -- A merge that stops at the first witness tells whether there is one.
 use Rattle.std.proofs.Common.{◌≡◌, Bool, true, false, not, ◌||◌, List, [], ◌∷◌, ◌++◌, map, Result, Ok, refl, sym}
-use Rattle.std.proofs.Common.{ap, subst, ◌∙◌, arith, MatchBool}
+use Rattle.std.proofs.Common.{ap, ◌∙◌, arith, MatchBool}
 use Rattle.std.specs.Cmp.{IsTotalOrder, tied_itself}
 use Rattle.std.specs.Ordering.{is_eq}
 use Rattle.std.specs.declared.cmp.Ordering.{Ordering}
@@ -15,20 +15,6 @@ use Rattle.vc_merge.specs.Gathering.{Gathers, GivesIf}
 use Rattle.vc_merge.proofs.Builds.{gathers-append, gathers-map, gathers-none}
 use Rattle.vc_sets.specs.Select.{both_sides, keeps, KeptAt}
 use Rattle.vc_sets.proofs.Selected.{set-of}
-
--- ---- an answer
-
-goes-on : (b : Bool) → ◌≡◌ {A = Answer} (Ok true) (Ok (not b)) → b ≡ false
-goes-on b e = grind arith
-
-stops-at : (b : Bool) (answer : Answer) → answer ≡ Ok (not b) → (answer ≡ Ok true → ⊥) → b ≡ true
-stops-at b answer e stop = grind arith
-
-found-or : (a b : Bool) → b ≡ true → (a || b) ≡ true
-found-or a b e = grind arith
-
-not-found_or : (a b : Bool) → b ≡ false → (a || b) ≡ a
-not-found_or a b e = grind arith
 
 module _ {X : Type 0} (cmp : X → X → Ordering) (total : IsTotalOrder cmp) where
   -- an element itself is equal
@@ -88,42 +74,34 @@ module _ {X : Type 0} (cmp : X → X → Ordering) (total : IsTotalOrder cmp) (l
       collision = λ s answer t. (answer ≡ Ok (not both)) × (found t ≡ (found s || both));
     })
 
-    -- an event gives nothing where it is not a witness, and itself where it is
-    gives-none : (b : Bool) (u : X) → b ≡ false → GivesIf b (λ z. u ≡ z) []
-    gives-none b u e = grind arith
-
-    gives-itself : (b : Bool) (u : X) → b ≡ true → GivesIf b (λ z. u ≡ z) (u ∷ [])
-    gives-itself b u e = grind arith
-
     -- nothing was found by runs that were all answered by true
     step-none : (s t : M) (run : Run X X) → Step witness_allows s run t → (found t ≡ found s)
         × Gathers witness_at (run_events run) []
-    step-none s t run p = grind (arith, goes-on, not-found_or, gathers-map, gathers-none, gives-none)
+    step-none s t run p = grind (arith, gathers-map, gathers-none)
 
     steps-none : (s t : M) (runs : List (Run X X)) → Steps witness_allows s runs t → (found t ≡ found s)
         × Gathers witness_at (events runs) []
     steps-none s t [] e = grind arith
     steps-none s t (run ∷ runs) e =
-        let p = step-none s e.0 run e.1 in
-        let q = steps-none e.0 t runs e.2 in
-        (q.0 ∙ p.0, gathers-append witness_at (run_events run) (events runs) [] [] p.1 q.1)
+        grind (arith, step-none s e.0 run e.1, steps-none e.0 t runs e.2, gathers-append witness_at (run_events run) (events runs) [] [])
 
     -- the last run was answered otherwise: it begins with a witness
     last-some : (s t : M) (run : Run X X) (answer : Answer) (ls rs : List X) → IsAtFront (left s) (right s) run ls rs
         → IsAllowed witness_allows s run answer t → (answer ≡ Ok true → ⊥)
         → (found t ≡ true) × ((u : X) × (us : List X) × Gathers witness_at (run_events run) (u ∷ us))
-    last-some s t (of_left []) answer ls rs p q stop = let none = p.0 in absurd (omega arith)
+    last-some s t (of_left []) answer ls rs p q stop = grind arith
     last-some s t (of_left (x ∷ xs)) answer ls rs p q stop =
-        let e = stops-at l answer q.0 stop in
         let rest = all-given (map (λ x. left_alone x) xs) in
-        (q.1 ∙ found-or (found s) l e, (x, rest.0, (x ∷ [], rest.0, gives-itself l x e, rest.1, refl)))
-    last-some s t (of_right []) answer ls rs p q stop = let none = p.0 in absurd (omega arith)
+        let e : l ≡ true = grind arith in
+        rw e (grind arith, (x, rest.0, (x ∷ [], rest.0, (x, refl, refl), rest.1, refl)))
+    last-some s t (of_right []) answer ls rs p q stop = grind arith
     last-some s t (of_right (y ∷ ys)) answer ls rs p q stop =
-        let e = stops-at r answer q.0 stop in
         let rest = all-given (map (λ y. right_alone y) ys) in
-        (q.1 ∙ found-or (found s) r e, (y, rest.0, (y ∷ [], rest.0, gives-itself r y e, rest.1, refl)))
-    last-some s t (of_both x y) answer ls rs p q stop = let e = stops-at both answer q.0 stop in
-        (q.1 ∙ found-or (found s) both e, (x, [], (x ∷ [], [], gives-itself both x e, refl, refl)))
+        let e : r ≡ true = grind arith in
+        rw e (grind arith, (y, rest.0, (y ∷ [], rest.0, (y, refl, refl), rest.1, refl)))
+    last-some s t (of_both x y) answer ls rs p q stop =
+        let e : both ≡ true = grind arith in
+        rw e (grind arith, (x, [], (x ∷ [], [], (x, refl, refl), refl, refl)))
 
     -- whether there is a witness
     Tells : Bool → List X → List X → Type 0
@@ -142,7 +120,7 @@ module _ {X : Type 0} (cmp : X → X → Ordering) (total : IsTotalOrder cmp) (l
         let rest = all-given w.rest in
         let until = gathers-append witness_at (events w.runs) (run_events w.last) [] (q.1.0 ∷ q.1.1) p.1 q.1.2 in
         let all = gathers-append witness_at (events w.runs ++ run_events w.last) w.rest (q.1.0 ∷ q.1.1) rest.0 until rest.1 in
-        subst (λ c. Tells c (left s) (right s)) (sym q.0)
+        rw q.0
         (some-given (left s) (right s) ((events w.runs ++ run_events w.last) ++ w.rest) q.1.0 (q.1.1 ++ rest.0) w.script all)
 
     -- the merge tells whether there is a witness

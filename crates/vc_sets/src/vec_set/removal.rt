@@ -11,7 +11,6 @@ use super::VecSet;
 use std::alloc::{AllocError, Allocator};
 use std::default::MadeWith;
 use vc_merge::lists::keep_in_front;
-use vc_merge::search::find;
 
 impl<T: Ord + MadeWith<A> + Drop, const N: usize, A: Allocator + Copy> VecSet<T, N, A> {
     /// Removes and drops the element that is equal to `that`, and answers whether there was one.
@@ -25,13 +24,7 @@ impl<T: Ord + MadeWith<A> + Drop, const N: usize, A: Allocator + Copy> VecSet<T,
         ensures kept { (x : T) → element_at T.cmp self.new x
             ≡ cond (eq_by_cmp T.cmp that.now x) None (element_at T.cmp self.old x) }
     {
-        match find(self.elements.as_slice(), that) {
-            Ok(index) => {
-                self.elements.remove(index);
-                true
-            }
-            Err(_) => false,
-        }
+        self.remove_by(that)
     }
 
     /// Keeps the elements for which `f` answers true, and drops the others. `f` is called once with

@@ -1,17 +1,14 @@
-use Rattle.std.proofs.Common.{◌≡◌, ap, is_some, reverse, sym, ◌∙◌}
-use Rattle.std.proofs.lemmas.List.Sorted.{IsPermutation-reverse, list_any-IsPermutation}
-use Rattle.std.specs.Ordering.{eq_by_cmp}
+use Rattle.std.proofs.Common.{◌≡◌, reverse}
 use Rattle.vc_merge.specs.Ascending.{element_at, member}
-use Rattle.vc_merge.proofs.Members.{member-is_some}
 use Rattle.vc_merge.proofs.Unordered.{if-made}
+use Rattle.vc_sets.proofs.Collected.{members-kept}
 use Rattle.vc_sets.proofs.vec_set.VecSet.from_unsorted.Goals as goal
 
 pub returns-clause-members : goal.returns-clause-members
 returns-clause-members g c =
     let cmp = g.T.Ord.cmp in let vec = c.args.vec.items in
     if-made (λ s. (x : g.row.T.Denot) → member cmp s x ≡ member cmp vec x) _
-    (λ x. member-is_some cmp _ x ∙ ap is_some (c.in_ok-in_order.ensures.kept x) ∙ sym (member-is_some cmp (reverse vec) x)
-    ∙ sym (list_any-IsPermutation (λ y. eq_by_cmp cmp y x) vec (reverse vec) (IsPermutation-reverse vec)))
+    (λ x. members-kept cmp vec _ x (c.in_ok-in_order.ensures.kept x))
     c.from_vec.result c.from_vec.ensures.elements
 
 pub returns-clause-kept : goal.returns-clause-kept

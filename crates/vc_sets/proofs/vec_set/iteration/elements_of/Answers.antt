@@ -1,7 +1,6 @@
 use Rattle.std.proofs.Common.{◌<◌, ◌^◌, ap, sym, ◌∙◌, subst, length}
 use Rattle.std.specs.Iterator.Runs.{ItemsMapTo}
 use Rattle.std.specs.Slice.Iter.{iter_rest, iter_steps}
-use Rattle.vc_merge.specs.Ascending.{Ascends}
 use Rattle.vc_merge.specs.Yielded.{list-along}
 use Rattle.vc_merge.proofs.Running.{inside-every}
 use Rattle.vc_sets.proofs.vec_set.iteration.elements_of.Goals as goal
@@ -9,7 +8,7 @@ use Rattle.vc_sets.proofs.vec_set.iteration.elements_of.Goals as goal
 pub vec_set_iter-requires : goal.vec_set_iter-requires
 vec_set_iter-requires g c =
     list-along iter_steps (λ x. x.now) iter_rest (λ s x t h. h) g.T.Ord.cmp (λ s t h. ap iter_rest (sym h.1)) c.iter.result
-    (subst (λ l. Ascends g.T.Ord.cmp l) (sym c.iter.ensures.rest) c.requires)
+    (rw c.iter.ensures.rest c.requires)
 
 pub returns : goal.returns
 returns g c = (
