@@ -4,8 +4,7 @@
 --     same-until, toggled-next        what is in the set up to that boundary, and at it
 --     overlap-next, overlap-last        whether it has a value of a range whose start it lacks
 use Rattle.std.proofs.Common.{◌≡◌, ℕ, suc, ◌-◌, Bool, true, false, cond, not, List, [], ◌∷◌, ◌++◌, length, slice_get}
-use Rattle.std.proofs.Common.{◌↔◌, Option, Some, None, IfSome, IsTrue, refl, sym, ap, subst, ◌∙◌, arith}
-use mathlib.Core.Bool.{true≢false}
+use Rattle.std.proofs.Common.{◌↔◌, Option, Some, None, IfSome, IsTrue, refl, arith}
 use native.Mathlib.Numerals.{unary_clauses}
 use Rattle.std.specs.BTreeMap.Range.{range_contains, is_from_start}
 use Rattle.std.specs.Cmp.{IsTotalOrder}
@@ -19,11 +18,11 @@ use Rattle.std.specs.declared.cmp.Ordering.TheVariants.{Less}
 use Rattle.std.specs.declared.ops.Bound.{Bound}
 use Rattle.std.specs.declared.ops.Bound.TheVariants.{Included, Excluded, Unbounded}
 use Rattle.vc_merge.specs.Ascending.{Ascends}
-use Rattle.vc_merge.proofs.ListLemmas.{each-weaker}
 use Rattle.vc_sets.specs.SetOf.{exactly_one}
 use Rattle.vc_intervals.specs.Events.{odd}
 use Rattle.vc_intervals.specs.Boundaries.{toggled}
 use Rattle.vc_intervals.specs.Listed.{listed_from, begun_start}
+use Rattle.vc_intervals.proofs.Ranged.{each-later}
 use Rattle.vc_intervals.proofs.Toggled.{toggled-passed, toggled-above}
 use Rattle.vc_intervals.proofs.OneList.{at-first, boundaries-above}
 
@@ -33,12 +32,10 @@ odd-next n b = grind arith
 module _ {X : Type 0} (P : X → Type 0) where
   -- what holds of a value that is shown, or of one that is to be shown
   pub if-shown : (r : Option (Bor X)) (o : Option X) → option_copied r ≡ o → IfSome r (λ t. P t.now) → IfSome o P
-  if-shown None o e h = subst (λ v. IfSome v P) e h
-  if-shown (Some t) o e h = subst (λ v. IfSome v P) e h
+  if-shown r o e h = grind arith
 
   pub if-each : (r : Option (Bor X)) (o : Option X) → option_copied r ≡ o → ((t : X) → o ≡ Some t → P t) → IfSome r (λ t. P t.now)
-  if-each None o e h = tt
-  if-each (Some t) o e h = h t.now (sym e)
+  if-each r o e h = grind arith
 
 module _ {X : Type 0} where
   -- ---- the ends of an interval
@@ -47,11 +44,6 @@ module _ {X : Type 0} where
   abbrev pub start_behind : Bound X → List X → Bound X
   start_behind s [] = s
   start_behind s (t ∷ ts) = start_behind (Included t) ts
-
-  -- the end of one that ends at the first of these boundaries, or where there is none, not at all
-  abbrev pub end_before : List X → Bound X
-  end_before [] = Unbounded
-  end_before (t ∷ ts) = Excluded t
 
   -- the start of an interval that has begun, where one has
   abbrev begun : Bool → Bound X → Option (Bound X)
@@ -66,10 +58,6 @@ module _ {X : Type 0} where
   abbrev pub end_at : Option X → Bound X
   end_at None = Unbounded
   end_at (Some t) = Excluded t
-
-  pub end-told : (qs : List X) → end_at (slice_get qs 0) ≡ end_before qs
-  end-told [] = refl
-  end-told (t ∷ qs) = refl
 
   starts : (s : Bound X) (t : X) (ps : List X) → start_at (slice_get (t ∷ ps) (length ps)) ≡ start_behind s (t ∷ ps)
   starts s t [] = refl
@@ -95,7 +83,7 @@ module _ {X : Type 0} (cmp : X → X → Ordering) where
 
   at-place : (inside : Bool) (s : Bound X) (qs : List X) (x : X) → is_from_start cmp s x ≡ true
       → AllByRecursion (λ t. is_le (cmp t x) ≡ false) qs
-      → find (has x) (listed_from (begun inside s) qs) ≡ cond inside (Some (s, end_before qs)) None
+      → find (has x) (listed_from (begun inside s) qs) ≡ cond inside (Some (s, end_at (slice_get qs 0))) None
   at-place true s [] x e h = grind arith
   at-place true s (q ∷ qs) x e h = grind arith
   at-place false s qs x e h = (none-ahead qs x h).0
@@ -107,70 +95,42 @@ module _ {X : Type 0} (cmp : X → X → Ordering) where
   pub interval-from : (inside : Bool) (s : Bound X) (ps qs : List X) (x : X) → is_from_start cmp s x ≡ true
       → AllByRecursion (λ t. is_le (cmp t x) ≡ true) ps → AllByRecursion (λ t. is_le (cmp t x) ≡ false) qs
       → find (has x) (listed_from (begun inside s) (ps ++ qs))
-      ≡ cond (exactly_one (odd (length ps)) inside) (Some (start_behind s ps, end_before qs)) None
+      ≡ cond (exactly_one (odd (length ps)) inside) (Some (start_behind s ps, end_at (slice_get qs 0))) None
   interval-from inside s [] qs x e p q = at-place inside s qs x e q
   interval-from true s (t ∷ ps) qs x e p q =
-      ap (λ c. cond c (Some (s, Excluded t)) (find (has x) (listed_from None (ps ++ qs)))) (ended s t x p.0)
-      ∙ interval-from false (Included t) ps qs x p.0 p.1 q
-      ∙ ap (λ c. cond c (Some (start_behind (Included t) ps, end_before qs)) None) (odd-next (length ps) true)
-  interval-from false s (t ∷ ps) qs x e p q =
-      interval-from true (Included t) ps qs x p.0 p.1 q
-      ∙ ap (λ c. cond c (Some (start_behind (Included t) ps, end_before qs)) None) (odd-next (length ps) false)
+      rw (ended s t x p.0, ← odd-next (length ps) true) (interval-from false (Included t) ps qs x p.0 p.1 q)
+  interval-from false s (t ∷ ps) qs x e p q = rw (← odd-next (length ps) false) (interval-from true (Included t) ps qs x p.0 p.1 q)
 
   pub interval-around : (b : Bool) (ps qs : List X) (x : X) → AllByRecursion (λ t. is_le (cmp t x) ≡ true) ps
       → AllByRecursion (λ t. is_le (cmp t x) ≡ false) qs
       → find (has x) (listed_from (begun_start b) (ps ++ qs))
-      ≡ cond (exactly_one (odd (length ps)) b) (Some (start_behind Unbounded ps, end_before qs)) None
+      ≡ cond (exactly_one (odd (length ps)) b) (Some (start_behind Unbounded ps, end_at (slice_get qs 0))) None
   interval-around true ps qs x p q = interval-from true Unbounded ps qs x refl p q
   interval-around false ps qs x p q = interval-from false Unbounded ps qs x refl p q
 
   module _ (total : IsTotalOrder cmp) where
     -- ---- the next boundary
 
-    above-or : (t x : X) → is_lt (cmp x t) ≡ not (is_le (cmp t x))
-    above-or t x = grind arith
-
     -- the first boundary above a place
     pub next-above : (ps qs : List X) (x : X) → AllByRecursion (λ t. is_le (cmp t x) ≡ true) ps
         → AllByRecursion (λ t. is_le (cmp t x) ≡ false) qs → find (λ t. is_lt (cmp x t)) (ps ++ qs) ≡ slice_get qs 0
     next-above [] [] x p q = refl
-    next-above [] (t ∷ qs) x p q = grind (arith, above-or)
-    next-above (t ∷ ps) qs x p q = grind (arith, above-or, next-above ps qs x p.1 q)
-
-    boundaries : (p q b : Bool) → q ≡ not b → exactly_one p q ≡ not (exactly_one p b)
-    boundaries p q b e = grind arith
-
-    le-on : (t v x : X) → is_le (cmp v x) ≡ true → is_le (cmp t v) ≡ true → is_le (cmp t x) ≡ true
-    le-on t v x e h = grind arith
-
-    le-all : (ps : List X) (v x : X) → is_le (cmp v x) ≡ true → AllByRecursion (λ t. is_le (cmp t v) ≡ true) ps
-        → AllByRecursion (λ t. is_le (cmp t x) ≡ true) ps
-    le-all ps v x e p =
-        each-weaker (λ t. is_le (cmp t v) ≡ true) (λ t. is_le (cmp t x) ≡ true) (λ t k. le-on t v x e k) ps p
-
-    gt-less : (t x : X) → cmp x t ≡ Less → is_le (cmp t x) ≡ false
-    gt-less t x e = grind arith
-
-    less-gt : (t x : X) → is_le (cmp t x) ≡ false → cmp x t ≡ Less
-    less-gt t x e = grind arith
+    next-above [] (t ∷ qs) x p q = grind arith
+    next-above (t ∷ ps) qs x p q = grind (arith, next-above ps qs x p.1 q)
 
     -- boundaries of which the first is above x are
     all-above : (qs : List X) (x : X) → Ascends cmp qs → IfSome (slice_get qs 0) (λ t. cmp x t ≡ Less)
         → AllByRecursion (λ t. is_le (cmp t x) ≡ false) qs
     unfolding IsStrictlySortedBy
     all-above [] x a h = tt
-    all-above (t ∷ qs) x a h =
-        (gt-less t x h, boundaries-above cmp total t qs x (gt-less t x h) a.0)
+    all-above (t ∷ qs) x a h = grind (arith, boundaries-above cmp total t qs x)
 
     -- from a place on, nothing changes before the first boundary above it
     pub same-until : (b : Bool) (ps qs : List X) (v x : X) → Ascends cmp qs
         → AllByRecursion (λ t. is_le (cmp t v) ≡ true) ps → AllByRecursion (λ t. is_le (cmp t v) ≡ false) qs
         → is_le (cmp v x) ≡ true → IfSome (slice_get qs 0) (λ t. cmp x t ≡ Less)
         → toggled cmp b (ps ++ qs) x ≡ toggled cmp b (ps ++ qs) v
-    same-until b ps qs v x a p q e h =
-        toggled-passed cmp b ps qs x (le-all ps v x e p)
-        ∙ ap (exactly_one (odd (length ps))) (toggled-above cmp b qs x (all-above qs x a h) ∙ sym (toggled-above cmp b qs v q))
-        ∙ sym (toggled-passed cmp b ps qs v p)
+    same-until b ps qs v x a p q e h = grind (arith, toggled-passed, toggled-above, each-later, all-above)
 
     -- there the answer changes
     pub toggled-next : (b : Bool) (ps qs : List X) (v t : X) → Ascends cmp qs
@@ -179,13 +139,7 @@ module _ {X : Type 0} (cmp : X → X → Ordering) where
     unfolding IsStrictlySortedBy
     toggled-next b ps [] v t a p q e = grind arith
     toggled-next b ps (u ∷ qs) v t a p q e =
-        let is : u ≡ t = cc in
-        subst (λ w. toggled cmp b (ps ++ u ∷ qs) w ≡ not (toggled cmp b (ps ++ u ∷ qs) v)) is
-        (toggled-passed cmp b ps (u ∷ qs) u
-        (le-all ps v u (ap is_le (less-gt u v q.0)) p)
-        ∙ boundaries (odd (length ps)) (toggled cmp b (u ∷ qs) u) b (at-first cmp total b u qs a.0)
-        ∙ ap not (sym (toggled-passed cmp b ps (u ∷ qs) v p
-        ∙ ap (exactly_one (odd (length ps))) (toggled-above cmp b (u ∷ qs) v q))))
+        grind (arith, toggled-passed, toggled-above, each-later cmp total ps v t, at-first)
 
     -- ---- a range
 
@@ -193,23 +147,13 @@ module _ {X : Type 0} (cmp : X → X → Ordering) where
     pub range-start : (s e : X) → cmp s e ≡ Less → range_contains cmp (Included s) (Excluded e) s ≡ true
     range-start s e l = grind arith
 
-    from-start : (s e x : X) → range_contains cmp (Included s) (Excluded e) x ≡ true → is_le (cmp s x) ≡ true
-    from-start s e x h = grind arith
-
-    within : (s e t : X) → is_le (cmp t s) ≡ false → is_lt (cmp t e) ≡ true
-        → range_contains cmp (Included s) (Excluded e) t ≡ true
-    within s e t h k = grind arith
-
-    before : (s e t x : X) → range_contains cmp (Included s) (Excluded e) x ≡ true → is_lt (cmp t e) ≡ false → cmp x t ≡ Less
-    before s e t x h k = grind arith
-
     -- a set has a value of it
     abbrev pub Overlap : Bool → List X → X → X → Type 0
     Overlap b ts s e = (x : X) × IsTrue (range_contains cmp (Included s) (Excluded e) x) × IsTrue (toggled cmp b ts x)
 
     first-ahead : (P : X → Type 0) (qs : List X) (t : X) → slice_get qs 0 ≡ Some t → AllByRecursion P qs → P t
     first-ahead P [] t e h = grind arith
-    first-ahead P (q ∷ qs) t e h = let is : q ≡ t = cc in subst P is h.0
+    first-ahead P (q ∷ qs) t e h = grind arith
 
     module _ (b : Bool) (ps qs : List X) (s e : X) (ascends : Ascends cmp qs)
         (passed : AllByRecursion (λ t. is_le (cmp t s) ≡ true) ps)
@@ -217,26 +161,13 @@ module _ {X : Type 0} (cmp : X → X → Ordering) where
       -- what comes before the next boundary is not in the set, where the start is not
       lacking : (x : X) → range_contains cmp (Included s) (Excluded e) x ≡ true → IfSome (slice_get qs 0) (λ t. cmp x t ≡ Less)
           → toggled cmp b (ps ++ qs) x ≡ true → ⊥
-      lacking x r h k =
-          true≢false (sym k ∙ same-until b ps qs s x ascends passed ahead (from-start s e x r) h ∙ lacks)
+      lacking x r h k = grind (arith, same-until b ps qs s x ascends passed ahead)
 
       pub overlap-last : slice_get qs 0 ≡ None → IsTrue false ↔ Overlap b (ps ++ qs) s e
-      overlap-last n = (
-        λ f. absurd (true≢false (sym f)),
-        λ o. absurd (lacking o.0 o.1 (subst (λ v. IfSome v (λ t. cmp o.0 t ≡ Less)) (sym n) tt) o.2),
-      )
+      overlap-last n = grind (arith, lacking)
 
       pub overlap-next : (t : X) (c : Bool) → slice_get qs 0 ≡ Some t → c ≡ is_lt (cmp t e)
           → IsTrue c ↔ Overlap b (ps ++ qs) s e
-      overlap-next t true n k = (
-        λ _. (
-          t,
-          within s e t (first-ahead (λ q. is_le (cmp q s) ≡ false) qs t n ahead) (sym k),
-          toggled-next b ps qs s t ascends passed ahead n ∙ ap not lacks,
-        ),
-        λ _. refl,
-      )
-      overlap-next t false n k = (
-        λ f. absurd (true≢false (sym f)),
-        λ o. absurd (lacking o.0 o.1 (subst (λ v. IfSome v (λ q. cmp o.0 q ≡ Less)) (sym n) (before s e t o.0 o.1 (sym k))) o.2),
-      )
+      overlap-next t true n k =
+          grind (arith, first-ahead (λ q. is_le (cmp q s) ≡ false) qs t n ahead, toggled-next b ps qs s t ascends passed ahead n)
+      overlap-next t false n k = grind (arith, lacking)

@@ -4,7 +4,7 @@
 --     unbounded-told        whether one has no end
 --     last-open, last-closed        the last one
 use Rattle.std.proofs.Common.{◌≡◌, ℕ, zero, suc, ◌+◌, ◌/◌, ◌<◌, Bool, true, false, not, ◌||◌, List, [], ◌∷◌, ◌++◌, length}
-use Rattle.std.proofs.Common.{◌↔◌, Option, Some, None, IsTrue, refl, sym, ap, ◌∙◌, append_assoc, length-append, arith}
+use Rattle.std.proofs.Common.{◌↔◌, Option, Some, None, IsTrue, refl, append_assoc, length-append, arith}
 use Rattle.std.specs.List.{Contains, slice_index_or}
 use Rattle.std.specs.Bool.{beq}
 use Rattle.std.specs.Int.{from_bool}
@@ -14,13 +14,6 @@ use Rattle.std.specs.declared.ops.Bound.TheVariants.{Included, Excluded, Unbound
 use Rattle.vc_sets.specs.SetOf.{exactly_one}
 use Rattle.vc_intervals.specs.Events.{odd}
 use Rattle.vc_intervals.specs.Listed.{listed_from, begun_start}
-
--- by how many boundaries come before the last interval, whether one goes on there
-open-front : (b c : Bool) (m n : ℕ) → c ≡ odd n → not (beq b c) ≡ true → n ≡ m + 1 → exactly_one (odd m) b ≡ false
-open-front b c m n e h k = grind arith
-
-closed-front : (b c : Bool) (m n : ℕ) → c ≡ odd n → not (beq b c) ≡ false → n ≡ m + 2 → exactly_one (odd m) b ≡ false
-closed-front b c m n e h k = grind arith
 
 module _ {X : Type 0} where
   -- whether an interval has begun, and has not ended, behind these boundaries
@@ -59,39 +52,21 @@ module _ {X : Type 0} where
 
   -- ---- of a set
 
-  begun-goes_on : (b : Bool) (ts : List X) → goes_on (begun_start b) ts ≡ exactly_one (odd (length ts)) b
-  begun-goes_on b ts = grind arith
-
   pub unbounded-told : (b : Bool) (ts : List X)
       → IsTrue (exactly_one (odd (length ts)) b) ↔ ((s : Bound X) × Contains (listed_from (begun_start b) ts) (s, Unbounded))
   unbounded-told b ts =
-      let is = begun-goes_on b ts in
-      (λ e. has-no-end (begun_start b) ts (is ∙ e), λ r. sym is ∙ no-end (begun_start b) ts r.0 r.1.0 r.1.1 r.1.2)
+      (λ e. has-no-end (begun_start b) ts (grind arith), λ r. grind (arith, no-end (begun_start b) ts r.0 r.1.0 r.1.1 r.1.2))
 
   pub listed-count : (b : Bool) (ts : List X) (n : ℕ) → n ≡ from_bool (b || odd (length ts))
       → length ts / 2 + n ≡ length (listed_from (begun_start b) ts)
   listed-count b ts n e = grind (arith, listed-length ts)
 
-  -- the last interval starts at s and ends at the first of us, or where there is none, not at all
-  last-listed : (b : Bool) (rest us : List X) (s : X) (e : Bound X) → listed_from None (s ∷ us) ≡ (Included s, e) ∷ []
-      → exactly_one (odd (length rest)) b ≡ false
-      → listed_from (begun_start b) (rest ++ s ∷ us) ≡ listed_from (begun_start b) rest ++ (Included s, e) ∷ []
-  last-listed b rest us s e h p =
-      listed-append (begun_start b) rest (s ∷ us) (begun-goes_on b rest ∙ p)
-      ∙ ap (λ l. listed_from (begun_start b) rest ++ l) h
-
   pub last-open : (b c : Bool) (ts rest : List X) (s : X) → c ≡ odd (length ts) → not (beq b c) ≡ true → ts ≡ rest ++ s ∷ []
       → listed_from (begun_start b) ts ≡ listed_from (begun_start b) rest ++ (Included s, Unbounded) ∷ []
-  last-open b c ts rest s e h k =
-      ap (listed_from (begun_start b)) k
-      ∙ last-listed b rest [] s Unbounded refl
-      (open-front b c (length rest) (length ts) e h (ap length k ∙ length-append rest (s ∷ [])))
+  last-open b c ts rest s e h k = grind (arith, listed-append (begun_start b) rest (s ∷ []), length-append)
 
   pub last-closed : (b c : Bool) (ts front rest : List X) (s e : X) → c ≡ odd (length ts) → not (beq b c) ≡ false
       → ts ≡ front ++ e ∷ [] → front ≡ rest ++ s ∷ []
       → listed_from (begun_start b) ts ≡ listed_from (begun_start b) rest ++ (Included s, Excluded e) ∷ []
   last-closed b c ts front rest s e h p k l =
-      let all : ts ≡ rest ++ s ∷ e ∷ [] = k ∙ ap (λ m. m ++ e ∷ []) l ∙ append_assoc rest (s ∷ []) (e ∷ []) in
-      ap (listed_from (begun_start b)) all
-      ∙ last-listed b rest (e ∷ []) s (Excluded e) refl
-      (closed-front b c (length rest) (length ts) h p (ap length all ∙ length-append rest (s ∷ e ∷ [])))
+      grind (arith, listed-append (begun_start b) rest (s ∷ e ∷ []), length-append, append_assoc)

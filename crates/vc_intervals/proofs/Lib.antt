@@ -10,4 +10,3 @@ mod Around
 mod Behind
 mod Swept
 mod Sorted
-mod Cloned

@@ -1,6 +1,5 @@
 -- What a walk that searches for a place says of two sets: that one is within the other, or that they share nothing.
-use Rattle.std.proofs.Common.{◌≡◌, ◌↔◌, Bool, true, false, not, IsTrue, MatchBool, ◌⊎◌, ⊎_elim, arith}
-use mathlib.Core.Bool.{true≢false}
+use Rattle.std.proofs.Common.{◌≡◌, ◌↔◌, Bool, true, false, not, IsTrue, MatchBool, ◌⊎◌, arith}
 use Rattle.std.specs.declared.cmp.Ordering.{Ordering}
 use Rattle.vc_sets.specs.Select.{keeps}
 use Rattle.vc_intervals.specs.Boundaries.{Intervals, holds}

@@ -1,18 +1,13 @@
-use Rattle.std.proofs.Common.{◌≡◌, ◌||◌, Bool, true, false, length, refl, sym, ap, subst, ◌∙◌, arith, rules}
+use Rattle.std.proofs.Common.{◌||◌, false, length, sym, ap, subst, ◌∙◌, arith, rules}
 use mathlib.Core.Bool.{true≢false}
 use Rattle.std.proofs.lemmas.List.Sorted.{list_any-IsPermutation}
-use Rattle.std.specs.List.{AllByRecursion}
 use Rattle.std.specs.List.Sorted.{IsStrictlySortedBy}
 use Rattle.vc_merge.proofs.ListLemmas.{nil-from_length}
 use Rattle.vc_intervals.specs.Boundaries.{toggled}
-use Rattle.vc_intervals.specs.Ranges.{in_range, in_some, IsSwept, StartsAscend}
+use Rattle.vc_intervals.specs.Ranges.{in_range, in_some, StartsAscend}
 use Rattle.vc_intervals.proofs.Swept.{all-swept, none-swept, moved-over}
 use Rattle.vc_intervals.proofs.Sorted.{starts-sorted}
 use Rattle.vc_intervals.proofs.interval_set.IntervalSet.from_ranges.Goals as goal
-
-or-false : (p : Bool) → (p || false) ≡ p
-or-false true = refl
-or-false false = refl
 
 pub returns-in_err-boundaries-clause-room : goal.returns-in_err-boundaries-clause-room
 returns-in_err-boundaries-clause-room g c h =
@@ -34,25 +29,16 @@ loop-range-init g c =
           let n = ap length items in let no = ap length none in
           omega (arith, product.1, n, no, c.sort_by_start.new.ranges.ok, c.len.ensures, c.in_ok-boundaries.ensures.capacity);
       ascends = rw none tt;
-      starts = subst (StartsAscend cmp) (sym items) (starts-sorted cmp g.met.T.Ord.total _ c.sort_by_start.ensures.sorted);
+      starts = rw items (starts-sorted cmp g.met.T.Ord.total _ c.sort_by_start.ensures.sorted);
       swept = none-swept cmp g.met.T.Ord.total c.in_ok-boundaries.boundaries.items _ none;
-      at = λ x. ap (λ l. in_some cmp l x || toggled cmp false c.in_ok-boundaries.boundaries.items x) items
-          ∙ ap (λ l. in_some cmp c.sort_by_start.new.ranges.items x || toggled cmp false l x) none
-          ∙ or-false (in_some cmp c.sort_by_start.new.ranges.items x)
-          ∙ sym (list_any-IsPermutation (λ r. in_range cmp r x) _ _ c.sort_by_start.ensures.permutation);
+      at = λ x. rw (items, none, list_any-IsPermutation (λ r. in_range cmp r x) _ _ c.sort_by_start.ensures.permutation) (grind arith);
     }
 
 pub add_last-requires : goal.add_last-requires
 add_last-requires g c =
     let steps = c.in-Some.ensures.steps.0 in
-    let n = ap length steps in (
-      search rules,
-      (
-        omega (arith, n, c.loop-range.invariant.room),
-        (subst (AllByRecursion (λ q. IsSwept g.T.Ord.cmp q.start c.loop-range.boundaries.items)) steps
-            c.loop-range.invariant.swept).0,
-      ),
-    )
+    let n = ap length steps in
+    (search rules, (omega (arith, n, c.loop-range.invariant.room), (rw steps at c.loop-range.invariant.swept).0))
 
 pub loop-range-preserved : goal.loop-range-preserved
 loop-range-preserved g c =

@@ -1,18 +1,15 @@
 use Rattle.core.proofs.iter.runs.Sources.{from_front, from_back}
-use Rattle.std.proofs.Common.{length, sym, ap, subst, ◌∙◌}
+use Rattle.std.proofs.Common.{length, ap}
 use Rattle.std.specs.Map.Iter.{TakesFirst, TakesLast}
-use Rattle.vc_merge.specs.Ascending.{Ascends}
-use Rattle.vc_intervals.specs.Boundaries.{intervals, holds}
+use Rattle.vc_intervals.specs.Boundaries.{intervals}
 use Rattle.vc_intervals.specs.Listed.{shown_ends}
 use Rattle.vc_intervals.proofs.OneList.{listed-holds}
 use Rattle.vc_intervals.proofs.interval_set.IntervalSet.iter.Goals as goal
 
 pub returns-clause-holds : goal.returns-clause-holds
 returns-clause-holds g c x =
-    let cmp = g.T.Ord.cmp in
-    let ascends = subst (λ l. Ascends cmp l) (sym c.as_slice.ensures) c.self.invariant in
-    sym (ap (λ s. holds cmp s x) (ap (λ l. intervals l c.self.inside.below) c.as_slice.ensures ∙ c.self.view_is))
-    ∙ listed-holds cmp g.met.T.Ord.total (intervals c.as_slice.result.now c.self.inside.below) ascends x
+    rw (← c.self.view_is, ← c.as_slice.ensures)
+    (listed-holds g.T.Ord.cmp g.met.T.Ord.total (intervals c.as_slice.result.now c.self.inside.below) (rw c.as_slice.ensures c.self.invariant) x)
 
 pub returns-clause-runs : goal.returns-clause-runs
 returns-clause-runs g c =

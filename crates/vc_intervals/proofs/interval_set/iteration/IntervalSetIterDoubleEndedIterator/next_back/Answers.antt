@@ -1,7 +1,4 @@
-use Rattle.std.proofs.Common.{[], ◌∷◌, ◌++◌, length, sym, ap, ◌∙◌, length-append, arith}
-use Rattle.std.specs.Range.Bound.{bound_map}
-use Rattle.std.specs.declared.ops.Bound.TheVariants.{Included, Excluded, Unbounded}
-use Rattle.vc_intervals.specs.Listed.{listed_from, begun_start}
+use Rattle.std.proofs.Common.{length, ap, length-append, arith}
 use Rattle.vc_intervals.proofs.Behind.{last-open, last-closed}
 use Rattle.vc_intervals.proofs.interval_set.iteration.IntervalSetIterDoubleEndedIterator.next_back.Goals as goal
 use Rattle.vc_intervals.proofs.interval_set.iteration.IntervalSetIterDoubleEndedIterator.next_back.Goals.{then-self-is_odd, else-self-is_odd+in_ok-last}
@@ -14,22 +11,13 @@ returns-clause-steps g c =
     let start = c.in-Some.start.now in
     elim c.if-self-is_odd.branch [
       | then-self-is_odd w ↦
-          sym c.self.view_is
-          ∙ last-open begun c.is_odd.result ts rest start c.is_odd.ensures w.if-self-is_odd.true
-          (sym (ap (λ s. s.boundaries.now) w.self-inside-is) ∙ c.in-Some.ensures.cases.0)
-          ∙ ap (λ b. listed_from (begun_start b) rest ++ (Included start, Unbounded) ∷ [])
-          (sym (ap (λ s. s.has_begun) w.self-inside-is))
-          ∙ ap (λ e. listed_from (begun_start c.if-self-is_odd.self-inside.has_begun) rest
-          ++ (Included start, bound_map (λ x. x.now) e) ∷ []) (sym w.end-is)
+          rw (← c.self.view_is, w.end-is, w.self-inside-is)
+          (last-open begun c.is_odd.result ts rest start c.is_odd.ensures w.if-self-is_odd.true
+          (rw w.self-inside-is at c.in-Some.ensures.cases.0))
       | else-self-is_odd+in_ok-last w ↦
-          sym c.self.view_is
-          ∙ last-closed begun c.is_odd.result ts w.in_ok-last.rest.now rest start w.in_ok-last.last.now c.is_odd.ensures
-          w.if-self-is_odd.false w.in_ok-last.ensures.cases.0
-          (sym (ap (λ s. s.boundaries.now) w.self-inside-is) ∙ c.in-Some.ensures.cases.0)
-          ∙ ap (λ b. listed_from (begun_start b) rest ++ (Included start, Excluded w.in_ok-last.last.now) ∷ [])
-          (sym (ap (λ s. s.has_begun) w.self-inside-is))
-          ∙ ap (λ e. listed_from (begun_start c.if-self-is_odd.self-inside.has_begun) rest
-          ++ (Included start, bound_map (λ x. x.now) e) ∷ []) (sym w.end-is)
+          rw (← c.self.view_is, w.end-is, w.self-inside-is)
+          (last-closed begun c.is_odd.result ts w.in_ok-last.rest.now rest start w.in_ok-last.last.now c.is_odd.ensures
+          w.if-self-is_odd.false w.in_ok-last.ensures.cases.0 (rw w.self-inside-is at c.in-Some.ensures.cases.0))
     ]
 
 pub returns-clause-goes : goal.returns-clause-goes
