@@ -1,5 +1,5 @@
 -- What may be asked of two maps may be asked of what is left of them.
-use Rattle.std.proofs.Common.{◌≡◌, ℕ, true, List, [], ◌∷◌, ◌++◌, map, take, drop, IfOk, Ok, Err, inl, inr, refl}
+use Rattle.std.proofs.Common.{◌≡◌, ℕ, true, List, [], ◌∷◌, ◌++◌, map, take, drop, IfOk, Ok, Err, inl, inr, arith}
 use Rattle.std.proofs.Math.ListN.{take-append-drop}
 use Rattle.std.specs.Cmp.{IsTotalOrder, tied_itself}
 use Rattle.std.specs.Int.{from_bool}
@@ -50,9 +50,7 @@ event_at Greater p q = right_alone q
 -- its question may be asked, where the join asks it
 may-ask : {K V W : Type 0} (cmp : K → K → Ordering) (kind : JoinKind) (Takes : OuterJoinArg K V W → Type 0) (o : Ordering)
     (x : K × V) (y : K × W) → MayAsk cmp kind Takes (event_at o x y) → asks_at kind o ≡ true → Takes (question_at o x y)
-may-ask cmp kind Takes Less x y may asks = may asks
-may-ask cmp kind Takes Equal x y may asks = may refl
-may-ask cmp kind Takes Greater x y may asks = may asks
+may-ask cmp kind Takes o x y may asks = grind arith
 
 module _ {K V W : Type 0} {cmp : K → K → Ordering} (total : IsTotalOrder cmp) where
   -- the events `front` come first in a script of xs and ys, and leave ls and rs
@@ -167,12 +165,9 @@ module _ {K V W : Type 0} {cmp : K → K → Ordering} (total : IsTotalOrder cmp
         → CanAsk cmp kind Takes (left s) (right s) → TakesLesser left right ready o s answer t
         → TakesLesser left right (λ s. ready s × BothAscend (by_key cmp) (left s) (right s)
         × CanAsk cmp kind Takes (left s) (right s)) o s answer t
-    heads-passed left right ready Less s t answer ascend e can h =
-        can-passed (fronts-passed Less (left s) (right s) ascend e).1 can (ready t) (left t) (right t) answer h
-    heads-passed left right ready Equal s t answer ascend e can h =
-        can-passed (fronts-passed Equal (left s) (right s) ascend e).1 can (ready t) (left t) (right t) answer h
-    heads-passed left right ready Greater s t answer ascend e can h =
-        can-passed (fronts-passed Greater (left s) (right s) ascend e).1 can (ready t) (left t) (right t) answer h
+    heads-passed left right ready o s t answer ascend e can h =
+        let passed = can-passed (fronts-passed o (left s) (right s) ascend e).1 can (ready t) (left t) (right t) answer in
+        grind (arith, passed)
 
 -- what may be asked at each key may be asked along the script
 pub can-ask : {K V W : Type 0} (cmp : K → K → Ordering) (total : IsTotalOrder cmp) (kind : JoinKind)

@@ -1,5 +1,5 @@
 -- The questions of a join of two maps: each is one that the kind of join asks, and may be asked where its parts may.
-use Rattle.std.proofs.Common.{◌≡◌, true, List, Option, Some, Result, Ok, Err, IsOk, OnOk}
+use Rattle.std.proofs.Common.{◌≡◌, true, List, Option, Some, Result, IsOk, OnOk}
 use Rattle.std.proofs.Common.{OnErr, arith}
 use Rattle.std.specs.declared.cmp.Ordering.{Ordering}
 use Rattle.vc_joins.specs.declared.question.OuterJoinArg.{OuterJoinArg}
@@ -57,5 +57,4 @@ pub join-ascends : {E K V W : Type 0} (cmp : K → K → Ordering) (kind : JoinK
     (zs : List (K × V))
     → OnOk result (IsJoin cmp kind left_spelling xs ys May Keeps zs) → OnErr result (zs ≡ xs) → AscendsByKey cmp xs
     → AscendsByKey cmp zs
-join-ascends cmp kind May Keeps (Ok x) xs ys zs j e h = j.ascends
-join-ascends cmp kind May Keeps (Err r) xs ys zs j e h = rw e h
+join-ascends cmp kind May Keeps result xs ys zs j e h = grind arith

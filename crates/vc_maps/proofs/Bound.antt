@@ -1,8 +1,8 @@
 -- What a map is once a key is bound to what was written through a reference.
 --     IsPut, put-known, put-new        the pair at the key stays, or is inserted
 --     lent-value, bound        what the loan shows, and what is written through it
-use Rattle.std.proofs.Common.{◌≡◌, ℕ, Bool, true, false, cond, List, ◌++◌, ◌∷◌, take, drop, length, get_or, set}
-use Rattle.std.proofs.Common.{arith, Option, Some, None, refl, sym, ap, ◌∙◌, subst}
+use Rattle.std.proofs.Common.{◌≡◌, ℕ, false, List, ◌++◌, ◌∷◌, take, drop, length, get_or, set}
+use Rattle.std.proofs.Common.{arith, Option, Some, refl, sym, ap, ◌∙◌, subst}
 use Rattle.std.proofs.Math.Seq.{drop-append-add, get_or-append_seam, take-append_seam}
 use Rattle.std.proofs.lemmas.List.{length-append, length-take-le}
 use Rattle.std.specs.Cmp.{IsTotalOrder, tied_itself}
@@ -43,16 +43,10 @@ module _ {K V : Type 0} (key : K) (made : V → Type 0) where
   Holds old new = IsSomeAnd new (UnwrapsOrElse old (λ p. (p.0 ≡ key) × made p.1))
 
   holds-key : (old : Option (K × V)) (x : K × V) → Holds old (Some x) → unwrap_or (option_map (λ p. p.0) old) key ≡ x.0
-  holds-key (Some p) x h = ap (λ q. q.0) (sym h)
-  holds-key None x h = sym h.0
+  holds-key old x h = grind arith
 
   holds-value : (old : Option (K × V)) (x : K × V) → Holds old (Some x) → UnwrapsOrElse (option_map (λ p. p.1) old) made x.1
-  holds-value (Some p) x h = ap (λ q. q.1) h
-  holds-value None x h = h.1
-
-chosen-by : {X : Type 0} (b : Bool) (x x2 y y2 : X) → x ≡ x2 → (b ≡ false → y ≡ y2) → cond b x y ≡ cond b x2 y2
-chosen-by true x x2 y y2 e f = e
-chosen-by false x x2 y y2 e f = f refl
+  holds-value old x h = grind arith
 
 module _ {K V : Type 0} {cmp : K → K → Ordering} (total : IsTotalOrder cmp) (made : V → Type 0) (es : List (K × V)) (key : K) where
   pub record IsPut (new : List (K × V)) (i : ℕ) : Type 0 where
@@ -98,10 +92,8 @@ module _ {K V : Type 0} {cmp : K → K → Ordering} (total : IsTotalOrder cmp) 
         → (w : V) → IsBound cmp es key w (set mid i (x.0, w))
     bound others w =
         let h = place-written total found is ascends w in record {
-          entries = λ k. h.entries k ∙ chosen-by (eq_by_cmp cmp k key) (Some (x.0, w)) _ (entry_at cmp mid k) (entry_at cmp es k)
-              (ap (λ q. Some (q, w)) (sym (holds-key key made (entry_at cmp es key) x here))) (others k);
-          values = λ k. h.values k ∙ chosen-by (eq_by_cmp cmp k key) (Some w) (Some w) (value_at cmp mid k) (value_at cmp es k)
-              refl (λ e. value-entry cmp mid k ∙ ap (λ o. option_map (λ p. p.1) o) (others k e) ∙ sym (value-entry cmp es k));
+          entries = λ k. grind (arith, h.entries k, holds-key key made (entry_at cmp es key) x here, others k);
+          values = λ k. grind (arith, h.values k, value-entry cmp mid k, value-entry cmp es k, others k);
         }
 
     pub still-ascends : (w : V) → AscendsByKey cmp (set mid i (x.0, w))

@@ -3,12 +3,12 @@
 --     value-equal, pairs-ordered        by the laws of a form
 --     found-taken_by, gap-taken_by        a pair removed
 use Rattle.std.proofs.Common.{◌≡◌, ℕ, zero, suc, ◌<◌, Bool, true, false, cond, List, [], ◌∷◌, ◌++◌, length, take}
-use Rattle.std.proofs.Common.{drop, get_or, Some, None, is_some, Result, Ok, Err, is_ok, refl, sym, ap, subst}
+use Rattle.std.proofs.Common.{drop, get_or, Some, None, is_some, Result, Ok, Err, is_ok, refl, sym, ap}
 use Rattle.std.proofs.Common.{◌∙◌, arith}
 use Rattle.std.specs.Cmp.{IsTotalOrder, eq_by_cmp_equiv}
 use Rattle.std.specs.List.{AllByRecursion, HoldsAt}
 use Rattle.std.specs.Map.{lookup, keys_of}
-use Rattle.std.specs.Ordering.{eq_by_cmp, is_eq}
+use Rattle.std.specs.Ordering.{is_eq}
 use Rattle.std.specs.declared.cmp.Ordering.{Ordering}
 use Rattle.std.specs.declared.cmp.Ordering.TheVariants.{Less, Equal, Greater}
 use Rattle.vc_merge.specs.Ascending.{Ascends}
@@ -82,8 +82,7 @@ module _ {K V : Type 0} {cmp : K → K → Ordering} {side : K → Ordering}
   found-taken_by {es} {slice} {new} {i} e f p n =
       let r = at-place slice i f.within in
       let at : side r.0.0 ≡ Equal = rw (r.1 r.0) at (f.equal r.0) in
-      let taken = found-changed total e
-      (subst (λ (s : K → Ordering). IsFound (λ (p : K × V). s p.0) slice i) (side-equal cmp side equal r.0.0 at) f) p None tt n in
+      let taken = found-changed total e (rw (side-equal cmp side equal r.0.0 at) at f) p None tt n in
       record {
         ascends = taken.ascends;
         entries = λ k. rw (equal r.0.0 k at) (taken.entries k);
@@ -97,10 +96,8 @@ module _ {K V : Type 0} {cmp : K → K → Ordering} {side : K → Ordering}
         × (value_at cmp es k ≡ cond b None (value_at cmp es k))
     kept-by true k h =
         let at : side k ≡ Equal = equal-from_is_eq (side k) h in
-        let taken = gap-taken total e
-        (subst (λ (s : K → Ordering). IsGap (λ (p : K × V). s p.0) slice i) (side-equal cmp side equal k at) g) p in
-        let same : eq_by_cmp cmp k k ≡ true = ap is_eq (sym (equal k k at)) ∙ h in
-        (rw same at (taken.entries k), rw same at (taken.values k))
+        let taken = gap-taken total e (rw (side-equal cmp side equal k at) at g) p in
+        grind (arith, equal k k at, taken.entries k, taken.values k)
     kept-by false k h = (refl, refl)
 
     -- where no key is equal to the form

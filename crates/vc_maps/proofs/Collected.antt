@@ -1,7 +1,6 @@
 -- What is collected from pairs in any order: one pair more. And a `Vec` whose items are collected.
-use Rattle.std.proofs.Common.{◌≡◌, ℕ, ◌<◌, Bool, cond, List, [], ◌∷◌, ◌++◌, Option, Some, length, reverse, sym, ap, ◌∙◌, arith, length-append}
+use Rattle.std.proofs.Common.{◌≡◌, ℕ, ◌<◌, cond, List, [], ◌∷◌, ◌++◌, Some, length, ap, ◌∙◌, arith, length-append}
 use Rattle.std.specs.Iterator.{Yields}
-use Rattle.std.specs.Option.{option_or}
 use Rattle.std.specs.Ordering.{eq_by_cmp}
 use Rattle.std.specs.Vec.Iter.{into_iter_items, into_iter_steps}
 use Rattle.std.specs.declared.cmp.Ordering.{Ordering}
@@ -11,23 +10,16 @@ use Rattle.vc_maps.specs.Collecting.{IsExtended}
 use Rattle.vc_sets.specs.Collecting.{GivesMoreThan}
 use mathlib.Core.List.{reverse-append}
 
-put-over : {X : Type 0} (b : Bool) (x : X) (o p : Option X) → cond b (Some x) (option_or o p) ≡ option_or (cond b (Some x) o) p
-put-over b x o p = grind arith
-
 module _ {K V : Type 0} (cmp : K → K → Ordering) where
   pub extended-next : (old xs now new : List (K × V)) (key : K) (value : V) → IsExtended cmp old xs now
       → ((k : K) → value_at cmp new k ≡ cond (eq_by_cmp cmp k key) (Some value) (value_at cmp now k))
       → ((k : K) → entry_at cmp new k ≡ cond (eq_by_cmp cmp k key) (Some (key, value)) (entry_at cmp now k))
       → IsExtended cmp old (xs ++ (key, value) ∷ []) new
   extended-next old xs now new key value h v e =
-      let turned = sym (reverse-append xs ((key, value) ∷ [])) in
+      let turned = reverse-append xs ((key, value) ∷ []) in
       record {
-        values = λ k. v k ∙ ap (cond (eq_by_cmp cmp k key) (Some value)) (h.values k)
-            ∙ put-over (eq_by_cmp cmp k key) value (value_at cmp (reverse xs) k) (value_at cmp old k)
-            ∙ ap (λ l. option_or (value_at cmp l k) (value_at cmp old k)) turned;
-        entries = λ k. e k ∙ ap (cond (eq_by_cmp cmp k key) (Some (key, value))) (h.entries k)
-            ∙ put-over (eq_by_cmp cmp k key) (key, value) (entry_at cmp (reverse xs) k) (entry_at cmp old k)
-            ∙ ap (λ l. option_or (entry_at cmp l k) (entry_at cmp old k)) turned;
+        values = λ k. grind (arith, v k, h.values k, turned);
+        entries = λ k. grind (arith, e k, h.entries k, turned);
       }
 
 -- ---- a `Vec` that is handed over

@@ -1,28 +1,45 @@
 -- Maps that take in all of another map: what each event adds, and what is at each key in the end.
-use Rattle.std.proofs.Common.{◌≡◌, IsOk, List, [], ◌∷◌, ◌++◌, Option, Some, Result, OnOk, refl}
-use Rattle.std.proofs.Common.{arith, ◌∙◌}
+use Rattle.std.proofs.Common.{◌≡◌, true, List, [], ◌∷◌, ◌++◌, Option, Some, Result, Ok, Err, IfOk, OnOk, refl}
+use Rattle.std.proofs.Common.{arith, ap, sym, ◌∙◌}
+use Rattle.std.proofs.lemmas.List.Elements.{same_from_all_zip}
 use Rattle.std.specs.Cmp.{IsTotalOrder, tied_itself}
-use Rattle.std.specs.Option.{option_map, option_or, option_and_then}
+use Rattle.std.specs.Option.{option_or}
 use Rattle.std.specs.declared.cmp.Ordering.{Ordering}
 use Rattle.std.specs.declared.cmp.Ordering.TheVariants.{Equal}
-use Rattle.vc_merge.specs.Building.{Skips}
+use Rattle.vc_merge.specs.Building.{Extends, Skips}
 use Rattle.vc_merge.specs.Chain.{Answer}
-use Rattle.vc_merge.specs.Gathering.{Gathers, Appends}
+use Rattle.vc_merge.specs.Gathering.{Adds, Gathers, Appends}
 use Rattle.vc_joins.specs.declared.question.OuterJoinArg.{OuterJoinArg}
 use Rattle.vc_joins.specs.declared.question.OuterJoinArg.TheVariants.{Left, Right, Both}
 use Rattle.vc_joins.specs.declared.question.JoinKind.TheVariants.{Outer}
 use Rattle.vc_joins.specs.Entries.{entry_at, value_at}
 use Rattle.vc_joins.specs.Events.{AnswerAdds}
 use Rattle.vc_joins.specs.Join.{IsAnswered, IsJoin, MovedKey, asked_at}
-use Rattle.vc_joins.specs.Question.{asked, left_spelling, shown_key}
+use Rattle.vc_joins.specs.Question.{left_spelling, shown_key}
 use Rattle.vc_joins.proofs.Functions.{joins-of_functions, value-entry}
 use Rattle.vc_maps.proofs.Asking.{on-ok}
-use Rattle.vc_maps.specs.Combining.{CanCombine, Combines, combined, IsCombinedBy}
+use Rattle.vc_maps.specs.Combining.{CanCombine, Combines, IsCombinedBy}
 
--- what was passed by a call that is never refused
-pub skipped : {M X N : Type 0} (built : M → List X) (name : M → N) (s t : M) (answer : Answer) → IsOk answer
-    → Skips built name s answer t → (name t ≡ name s) × (built t ≡ built s)
-skipped built name s t answer i h = grind arith
+module _ {M X Z N : Type 0} (built : M → List Z) (name : M → N) (gives : X → List Z → Type 0) where
+  -- what was added before a call that only passes something
+  pub adds-before : (xs : List X) (s m t : M) (answer : Answer) → Appends gives xs (built s) (built m) → name m ≡ name s
+      → Skips built name m answer t → Adds built name gives xs s answer t
+  adds-before xs s m t answer p e h = grind arith
+
+module _ {M Z N : Type 0} (built : M → List Z) (name : M → N) (gives : Z → List Z → Type 0) where
+  -- what was moved, where each element gives itself
+  pub adds-moved : (xs : List Z) (s t : M) (answer : Answer)
+      → ((old new : List Z) → new ≡ old ++ xs → Appends gives xs old new)
+      → IfOk answer (λ go_on. (go_on ≡ true) × (name t ≡ name s)
+      × Extends (λ x y. x ≡ y) xs (built s) (built t))
+      → Adds built name gives xs s answer t
+  adds-moved xs s t (Ok b) each h = (
+    h.0,
+    h.1,
+    each _ _ (h.2.items ∙ ap (λ l. built s ++ l)
+        (same_from_all_zip (λ x y. x ≡ y) xs h.2.added h.2.come (λ x y e. sym e))),
+  )
+  adds-moved xs s t (Err r) each h = tt
 
 module _ {K V : Type 0} where
   -- the closure may be called at a question that is asked
@@ -67,28 +84,19 @@ module _ {K V : Type 0} (g : V → V → V) where
       → ((k : K) (v w x : V) → a ≡ Both k v w → gives v w x → x ≡ g v w) → Combines gives a r → r ≡ answer_of a
   one-answer gives a r one m = grind arith
 
-  values-combined : (p q : Option (K × V)) → option_and_then answer_of (asked Outer left_spelling p q)
-      ≡ combined g (option_map (λ p. p.1) p) (option_map (λ p. p.1) q)
-  values-combined p q = grind arith
-
 module _ {K V : Type 0} (cmp : K → K → Ordering) (xs ys zs : List (K × V)) where
   -- where the closure gives one answer to the two values of each key, that stands there
   pub combined-by : (gives : V → V → V → Type 0) → IsJoin cmp Outer left_spelling xs ys (Combines gives) MovedKey zs
       → (g : V → V → V) → IsCombinedBy cmp xs ys gives g zs
   combined-by gives j g one k =
-      joins-of_functions cmp (Combines gives) MovedKey Outer left_spelling xs ys zs j (answer_of g)
-      (λ a r i m. one-answer g gives a r
-      (λ l v w x e. one l v w x (rw e at i)) m) k
-      ∙ rw (value-entry cmp xs k, value-entry cmp ys k) (values-combined g (entry_at cmp xs k) (entry_at cmp ys k))
-
-  combines-weaker : (gives may : V → V → V → Type 0) → ((v w x : V) → gives v w x → may v w x)
-      → (a : OuterJoinArg K V V) (r : Option V) → Combines gives a r → Combines may a r
-  combines-weaker gives may f a r m = grind arith
+      let here = joins-of_functions cmp (Combines gives) MovedKey Outer left_spelling xs ys zs j (answer_of g)
+      (λ a r i m. one-answer g gives a r (λ l v w x e. one l v w x (rw e at i)) m) k in
+      grind (arith, here, value-entry cmp xs k, value-entry cmp ys k)
 
   answered-weaker : (gives may : V → V → V → Type 0) → ((v w x : V) → gives v w x → may v w x)
       → (a : Option (OuterJoinArg K V V)) (found : Option (K × V)) → IsAnswered (Combines gives) MovedKey a found
       → IsAnswered (Combines may) MovedKey a found
-  answered-weaker gives may f a found h = grind (arith, combines-weaker gives may f)
+  answered-weaker gives may f a found h = grind arith
 
   join-weaker : (gives may : V → V → V → Type 0) → ((v w x : V) → gives v w x → may v w x)
       → IsJoin cmp Outer left_spelling xs ys (Combines gives) MovedKey zs
@@ -104,11 +112,7 @@ module _ {K V : Type 0} (cmp : K → K → Ordering) (xs ys zs : List (K × V)) 
       → OnOk result (IsJoin cmp Outer left_spelling xs ys (Combines may) MovedKey zs)
   joins-weaker result gives may j f = on-ok result (join-weaker gives may f) j
 
-  right-or-left : (v w : Option V) → combined (λ v w. w) v w ≡ option_or w v
-  right-or-left v w = grind arith
-
   -- where the value of the right takes the place of the left one
   pub right-values : IsJoin cmp Outer left_spelling xs ys (Combines (λ v w x. x ≡ w)) MovedKey zs → (k : K)
       → value_at cmp zs k ≡ option_or (value_at cmp ys k) (value_at cmp xs k)
-  right-values j k = combined-by (λ v w x. x ≡ w) j (λ v w. w) (λ l v w x i e. e) k
-      ∙ right-or-left (value_at cmp xs k) (value_at cmp ys k)
+  right-values j k = grind (arith, combined-by (λ v w x. x ≡ w) j (λ v w. w) (λ l v w x i e. e) k)

@@ -1,10 +1,10 @@
 -- What is at a key of a list of pairs that was searched, and that list with a pair inserted or removed.
-use Rattle.std.proofs.Common.{◌≡◌, ℕ, zero, suc, ◌<◌, Bool, true, false, cond, List, [], ◌∷◌, ◌++◌, length, take}
+use Rattle.std.proofs.Common.{◌≡◌, ℕ, zero, suc, ◌<◌, false, cond, List, [], ◌∷◌, ◌++◌, length, take}
 use Rattle.std.proofs.Common.{drop, get_or, add-one, arith, Option, Some, None, Result, Ok, Err, is_ok, is_some}
-use Rattle.std.proofs.Common.{refl, sym, ap, ◌∙◌}
+use Rattle.std.proofs.Common.{refl, sym, ap}
 use Rattle.std.proofs.Math.ListN.{take-append-drop}
 use Rattle.std.specs.BTreeMap.{is_at}
-use Rattle.std.specs.Cmp.{IsTotalOrder, Equal-is, alike_right, tied_itself}
+use Rattle.std.specs.Cmp.{IsTotalOrder, alike_right, tied_itself}
 use Rattle.std.specs.List.{AllByRecursion, cons_option}
 use Rattle.std.specs.List.Sorted.{IsStrictlySortedBy}
 use Rattle.std.specs.Option.{MatchOption, option_or, option_map}
@@ -25,15 +25,11 @@ split-at [] i h = absurd (omega arith)
 split-at (x ∷ xs) zero h = (x, refl, λ d. refl)
 split-at (x ∷ xs) (suc i) h = let r = split-at xs i (omega arith) in (r.0, ap (λ l. x ∷ l) r.1, r.2)
 
--- what is chosen in place of q, where o was chosen in place of q
-chosen-over : {A : Type 0} (b : Bool) (n o x p q : A) → n ≡ cond b x q → o ≡ cond b p q → n ≡ cond b x o
-chosen-over b n o x p q e f = grind arith
-
 module _ {K : Type 0} {cmp : K → K → Ordering} (total : IsTotalOrder cmp) where
   -- what is equal to a key is not at what is below it, nor at what is above it
   pub not-beside : (k key j : K) (o : Ordering) → is_eq (ordering_reverse o) ≡ false → cmp k key ≡ Equal → cmp j key ≡ o
       → is_at (cmp k) j ≡ false
-  not-beside k key j o h e at = ap is_eq (total.congr k key j e ∙ total.antisymm key j ∙ ap ordering_reverse at) ∙ h
+  not-beside k key j o h e at = grind (arith, total.congr k key j e, total.antisymm key j)
 
 module _ {K V : Type 0} {cmp : K → K → Ordering} (total : IsTotalOrder cmp) where
   -- what stands at the key
@@ -70,36 +66,25 @@ module _ {K V : Type 0} {cmp : K → K → Ordering} (total : IsTotalOrder cmp) 
   none-beside : (k key : K) (o : Ordering) → is_eq (ordering_reverse o) ≡ false → cmp k key ≡ Equal → (xs : List (K × V))
       → AllByRecursion (λ p. cmp p.0 key ≡ o) xs → entry_at cmp xs k ≡ None
   none-beside k key o h e [] p = refl
-  none-beside k key o h e (x ∷ xs) p = rw (not-beside total k key x.0 o h e p.0) (none-beside k key o h e xs p.1)
+  none-beside k key o h e (x ∷ xs) p = grind (arith, not-beside total k key x.0 o h e p.0, none-beside k key o h e xs p.1)
 
-  -- a pair whose key is equal to `key` is at the same keys
-  at-mid : (k key : K) (p : K × V) → cmp p.0 key ≡ Equal → is_at (cmp k) p.0 ≡ is_at (cmp k) key
-  at-mid k key p e = ap is_eq (alike_right total p.0 key k e)
-
-  mid-here : (k key : K) (mid : Option (K × V)) (back : List (K × V)) → cmp k key ≡ Equal
-      → StandsAt key mid → AllByRecursion (λ p. cmp p.0 key ≡ Greater) back
-      → entry_at cmp (cons_option mid back) k ≡ mid
-  mid-here k key None back e at p = none-beside k key Greater refl e back p
-  mid-here k key (Some q) back e at p = rw (at-mid k key q at ∙ ap is_eq e)
-
-  mid-elsewhere : (k key : K) (mid : Option (K × V)) (back : List (K × V)) → is_at (cmp k) key ≡ false
-      → StandsAt key mid → entry_at cmp (cons_option mid back) k ≡ entry_at cmp back k
-  mid-elsewhere k key None back e at = refl
-  mid-elsewhere k key (Some q) back e at = rw (at-mid k key q at ∙ e)
+  mid-at : (k key : K) (mid : Option (K × V)) (back : List (K × V)) → StandsAt key mid
+      → AllByRecursion (λ p. cmp p.0 key ≡ Greater) back
+      → entry_at cmp (cons_option mid back) k ≡ cond (eq_by_cmp cmp k key) mid (entry_at cmp back k)
+  mid-at k key None back at p = grind (arith, none-beside k key Greater refl)
+  mid-at k key (Some q) back at p = grind (arith, alike_right total q.0 key k at)
 
   module _ {es : List (K × V)} {key : K} {front : List (K × V)} {mid : Option (K × V)} {back : List (K × V)}
       (s : IsSplit es key front mid back) where
-    split-by : (k : K) (b : Bool) → eq_by_cmp cmp k key ≡ b
-        → entry_at cmp es k ≡ cond b mid (option_or (entry_at cmp front k) (entry_at cmp back k))
-    split-by k true e =
-        let tied : cmp k key ≡ Equal = (Equal-is (cmp k key)).0 e in
-        rw (s.is, entry-append front (cons_option mid back) k, none-beside k key Less refl tied front s.before)
-        (mid-here k key mid back tied s.at s.behind)
-    split-by k false e = rw (s.is, entry-append front (cons_option mid back) k, mid-elsewhere k key mid back e s.at)
+    split-by : (k : K)
+        → entry_at cmp es k ≡ cond (eq_by_cmp cmp k key) mid (option_or (entry_at cmp front k) (entry_at cmp back k))
+    split-by k =
+        let parts = entry-append front (cons_option mid back) k in
+        grind (arith, parts, none-beside k key Less refl, mid-at k key mid back s.at s.behind)
 
     -- what stands at the key itself
     split-value : value_at cmp es key ≡ option_map (λ p. p.1) mid
-    split-value = rw (value-entry cmp es key, split-by key true (ap is_eq (tied_itself total key)))
+    split-value = grind (arith, value-entry cmp es key, split-by key, tied_itself total key)
 
   -- ---- what a search tells
 
@@ -113,46 +98,26 @@ module _ {K V : Type 0} {cmp : K → K → Ordering} (total : IsTotalOrder cmp) 
   -- a place is found where there is a value
   pub place-has_value : (es : List (K × V)) (key : K) (r : Result ℕ ℕ) → IsPlace (λ p. cmp p.0 key) es r
       → is_ok r ≡ is_some (value_at cmp es key)
-  place-has_value es key (Ok i) f = sym (ap is_some (split-value (found-split f).1))
-  place-has_value es key (Err i) g = sym (ap is_some (gap-value g))
+  place-has_value es key (Ok i) f = grind (arith, split-value (found-split f).1)
+  place-has_value es key (Err i) g = grind (arith, gap-value g)
 
   -- ---- the order of the keys
-
-  -- what is less than the key is less than what stands there
-  below-now : (x key : K) (now : Option (K × V)) → cmp x key ≡ Less → StandsAt key now
-      → MatchOption now (Unit {0}) (λ p. cmp x p.0 ≡ Less)
-  below-now x key None less at = tt
-  below-now x key (Some q) less at = alike_right total q.0 key x at ∙ less
-
-  each-mid : (P : K × V → Type 0) (mid now : Option (K × V)) (back : List (K × V)) → AllByRecursion P (cons_option mid back)
-      → MatchOption now (Unit {0}) P → AllByRecursion P (cons_option now back)
-  each-mid P mid now back p q = grind arith
 
   each-changed : (P : K × V → Type 0) (front : List (K × V)) (mid now : Option (K × V)) (back : List (K × V))
       → AllByRecursion P (front ++ cons_option mid back) → MatchOption now (Unit {0}) P
       → AllByRecursion P (front ++ cons_option now back)
-  each-changed P [] mid now back p q = each-mid P mid now back p q
+  each-changed P [] mid now back p q = grind arith
   each-changed P (x ∷ front) mid now back p q = (p.0, each-changed P front mid now back p.1 q)
-
-  back-ascends : (mid : Option (K × V)) (back : List (K × V)) → Ascends (by_first cmp) (cons_option mid back)
-      → Ascends (by_first cmp) back
-  unfolding IsStrictlySortedBy
-  back-ascends None back p = p
-  back-ascends (Some q) back p = p.1
 
   changed-ascends : (key : K) (front : List (K × V)) (mid now : Option (K × V)) (back : List (K × V))
       → AllByRecursion (λ p. cmp p.0 key ≡ Less) front → StandsAt key now
       → AllByRecursion (λ p. cmp p.0 key ≡ Greater) back → Ascends (by_first cmp) (front ++ cons_option mid back)
       → Ascends (by_first cmp) (front ++ cons_option now back)
   unfolding IsStrictlySortedBy
-  changed-ascends key [] mid None back before at behind p = back-ascends mid back p
-  changed-ascends key [] mid (Some q) back before at behind p = (
-    each-weaker (λ y. cmp y.0 key ≡ Greater) (λ y. by_first cmp q y ≡ Less)
-        (λ y above. total.congr q.0 key y.0 at ∙ total.antisymm key y.0 ∙ ap ordering_reverse above) back behind,
-    back-ascends mid back p,
-  )
+  changed-ascends key [] mid now back before at behind p =
+      grind (arith, each-weaker, total.congr, total.antisymm)
   changed-ascends key (x ∷ front) mid now back before at behind p = (
-    each-changed (λ y. by_first cmp x y ≡ Less) front mid now back p.0 (below-now x.0 key now before.0 at),
+    each-changed (λ y. by_first cmp x y ≡ Less) front mid now back p.0 (grind (arith, alike_right total)),
     changed-ascends key front mid now back before.1 at behind p.1,
   )
 
@@ -164,23 +129,18 @@ module _ {K V : Type 0} {cmp : K → K → Ordering} (total : IsTotalOrder cmp) 
     pub entries : (k : K) → entry_at cmp new k ≡ cond (eq_by_cmp cmp k key) now (entry_at cmp es k)
     pub values : (k : K) → value_at cmp new k ≡ cond (eq_by_cmp cmp k key) (option_map (λ p. p.1) now) (value_at cmp es k)
 
-  value-by : (b : Bool) (now o : Option (K × V))
-      → option_map (λ p. p.1) (cond b now o) ≡ cond b (option_map (λ p. p.1) now) (option_map (λ p. p.1) o)
-  value-by b now o = grind arith
-
   split-changed : {es new : List (K × V)} {key : K} {front : List (K × V)} {mid : Option (K × V)} {back : List (K × V)}
       → IsSplit es key front mid back → AscendsByKey cmp es → (now : Option (K × V)) → StandsAt key now
       → new ≡ front ++ cons_option now back → IsChanged es key now new
   split-changed {es} {new} {key} {front} {mid} {back} s p now at e =
       let t : IsSplit new key front now back = record { is = e; before = s.before; at = at; behind = s.behind } in
       let entries : (k : K) → entry_at cmp new k ≡ cond (eq_by_cmp cmp k key) now (entry_at cmp es k) =
-      λ k. chosen-over (eq_by_cmp cmp k key) _ _ now mid _ (split-by t k _ refl) (split-by s k _ refl) in
+      λ k. grind (arith, split-by t k, split-by s k) in
       record {
         ascends = rw e (keys-ascend cmp (front ++ cons_option now back)
             (changed-ascends key front mid now back s.before at s.behind (rw s.is at (pairs-ascend cmp es p))));
         entries = entries;
-        values = λ k. rw (value-entry cmp new k, value-entry cmp es k, entries k)
-            (value-by (eq_by_cmp cmp k key) now (entry_at cmp es k));
+        values = λ k. grind (arith, value-entry cmp new k, value-entry cmp es k, entries k);
       }
 
   -- in the place of the pair with an equal key

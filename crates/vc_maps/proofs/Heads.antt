@@ -2,7 +2,7 @@
 use Rattle.std.proofs.Common.{◌≡◌, ℕ, Bool, true, false, arith}
 use Rattle.std.specs.Bool.{MatchBool}
 use Rattle.std.specs.declared.cmp.Ordering.{Ordering}
-use Rattle.std.specs.declared.cmp.Ordering.TheVariants.{Less, Equal, Greater}
+use Rattle.std.specs.declared.cmp.Ordering.TheVariants.{Equal}
 use Rattle.vc_merge.specs.Chain.{Answer, Gives, gives_at}
 use Rattle.vc_joins.specs.declared.question.JoinKind.{JoinKind}
 use Rattle.vc_joins.specs.Question.{asks_left, asks_right}
@@ -21,16 +21,12 @@ module _ {M : Type 0} (kind : JoinKind) (asks_a asks_b : M → ℕ → Answer �
   -- an event at which the join asks
   pub asked-gives : (o : Ordering) (s t : M) (answer : Answer) → asks_at kind o ≡ true
       → AsksOne asks_a asks_b asks_both o s answer t → gives_at joins o s answer t
-  asked-gives Less s t answer e h = rw e h
-  asked-gives Equal s t answer e h = h
-  asked-gives Greater s t answer e h = rw e h
+  asked-gives o s t answer e h = grind arith
 
   -- an event at which it does not
   pub passed-gives : (o : Ordering) (s t : M) (answer : Answer) → asks_at kind o ≡ false
       → PassesOne advances_a skips_b o s answer t → gives_at joins o s answer t
-  passed-gives Less s t answer e h = rw e h
-  passed-gives Equal s t answer e h = grind arith
-  passed-gives Greater s t answer e h = rw e h
+  passed-gives o s t answer e h = grind arith
 
 -- each join asks at equal keys
 pub asks-equal : (kind : JoinKind) (o : Ordering) {b : Bool} → b ≡ asks_at kind o → b ≡ false → o ≡ Equal → ⊥

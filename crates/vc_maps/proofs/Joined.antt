@@ -1,6 +1,6 @@
 -- A merge that asks at its events builds the join of its two maps.
 use Rattle.std.proofs.Common.{◌≡◌, ℕ, ◌+◌, ◌<◌, length, get_or, arith, Bool, true, false, List}
-use Rattle.std.proofs.Common.{[], ◌∷◌, ◌++◌, take, cond, append-nil, Option, Some, None, Result, Ok, Err, IsOk, ◌⊎◌}
+use Rattle.std.proofs.Common.{[], ◌∷◌, ◌++◌, take, cond, append-nil, Option, Some, None, Result, Ok, IsOk, ◌⊎◌}
 use Rattle.std.proofs.Common.{refl, sym, ◌∙◌}
 use Rattle.std.proofs.lemmas.List.{take_more}
 use Rattle.std.specs.Bool.{MatchBool}
@@ -89,8 +89,7 @@ module _ {K V W X M N : Type 0} (May : OuterJoinArg K V W → Option X → Type 
 
   skips-none : {Y : Type 0} (gives : Y → List (K × X) → Type 0) → ((y : Y) → gives y [])
       → (ys : List Y) (s t : M) (answer : Answer) → Skips built name s answer t → Adds built name gives ys s answer t
-  skips-none gives none ys s t (Ok b) p = (p.0, p.1, appends-none gives none ys (built s) (built t) p.2)
-  skips-none gives none ys s t (Err e) p = tt
+  skips-none gives none ys s t answer p = grind (arith, appends-none gives none ys (built s) (built t))
 
   -- what is asked at each of some elements, or at none
   asked-add : {P : Type 0} (question : P → OuterJoinArg K V W) (b : Bool) (ps : List P) (s t : M) (answer : Answer)
@@ -103,8 +102,7 @@ module _ {K V W X M N : Type 0} (May : OuterJoinArg K V W → Option X → Type 
   heads-add : (x : K × V) (y : K × W) (s t : M) (answer : Answer)
       → Adds built name (λ a. AnswerAdds May Keeps (Some a)) (Both x.0 x.1 y.1 ∷ []) s answer t
       → Adds built name (AnswersEvent kind left_spelling May Keeps) (collision x y ∷ []) s answer t
-  heads-add x y s t (Ok b) h = (h.0, h.1, record { added = h.2.added; gathered = h.2.gathered; items = h.2.items })
-  heads-add x y s t (Err e) h = tt
+  heads-add x y s t answer h = grind arith
 
   pub asking-builds : IsAsking → IsBuilding built name op (AnswersEvent kind left_spelling May Keeps)
   asking-builds is = record {

@@ -1,8 +1,7 @@
 -- Joins in place: which questions a state may be asked, and what is at a place of the parts of its list.
 use Rattle.std.proofs.Common.{append_assoc, ◌≡◌, ℕ, zero, suc, ◌<◌, ◌≤◌, ◌+◌, Bool, true, false, List, [], ◌∷◌, ◌++◌}
-use Rattle.std.proofs.Common.{length, take, drop, slice_range, ◌-◌, get_or, Option, Some, None, refl, sym, ap, subst}
-use Rattle.std.proofs.Common.{◌∙◌, arith}
-use mathlib.Core.Bool.{true≢false}
+use Rattle.std.proofs.Common.{length, take, drop, drop-cons, slice_range, get_or, Option, sym, ap}
+use Rattle.std.proofs.Common.{arith}
 use Rattle.std.specs.Bool.{MatchBool}
 use Rattle.std.specs.Cmp.{IsTotalOrder, tied_itself}
 use Rattle.std.specs.List.{AllByRecursion, AllZip}
@@ -10,15 +9,15 @@ use Rattle.std.specs.Option.{MatchOption}
 use Rattle.std.specs.declared.cmp.Ordering.{Ordering}
 use Rattle.std.specs.declared.cmp.Ordering.TheVariants.{Equal}
 use Rattle.vc_joins.specs.declared.question.OuterJoinArg.{OuterJoinArg}
-use Rattle.vc_joins.specs.declared.question.OuterJoinArg.TheVariants.{Left, Right, Both}
+use Rattle.vc_joins.specs.declared.question.OuterJoinArg.TheVariants.{Right}
 use Rattle.vc_joins.specs.declared.question.JoinKind.{JoinKind}
-use Rattle.vc_joins.specs.declared.question.JoinKind.TheVariants as kind
 use Rattle.vc_joins.specs.Join.{OldKey, IsJoin}
 use Rattle.vc_joins.specs.Question.{asks, asks_right, shown_key, left_spelling}
 use Rattle.vc_merge.specs.Clones.{ClonesAreEqual}
 use Rattle.vc_merge.proofs.Clones.{clone-equal}
 use Rattle.vc_maps.proofs.Asking.{join-of}
 use Rattle.std.proofs.lemmas.List.{take_more, length-take-le}
+use Rattle.std.proofs.lemmas.Slice.Zip.{AllZip-long}
 use Rattle.vc_merge.specs.Gathering.{Appends}
 use Rattle.vc_maps.specs.Keeping.{has_keys, MayAskWith, HaveKeys, ClonesKeys}
 
@@ -26,91 +25,66 @@ module _ {K V W : Type 0} where
   -- a question that a join asks may be asked of a state that has keys of the right, if the join asks at these
   pub may-ask : (right : Bool) (kind : JoinKind) (a : OuterJoinArg K V W) → asks_right kind ≡ right → asks kind a
       ≡ true → MayAskWith right a
-  may-ask true kind a e h = tt
-  may-ask false kind (Left k v) e h = refl
-  may-ask false kind (Right k w) e h = absurd (true≢false (sym h ∙ e))
-  may-ask false kind (Both k v w) e h = refl
-
-  -- a state without keys of the right is not asked at these
-  none-asked : (a : OuterJoinArg K V W) (k : K) (w : W) → a ≡ Right k w → MayAskWith false a → ⊥
-  none-asked a k w e h = true≢false (sym (subst (λ b. asks kind.Left b ≡ true) e h))
+  may-ask right kind a e h = grind arith
 
   -- the key of an answer is equal to the one that was shown
   pub old-equal : (cmp : K → K → Ordering) → IsTotalOrder cmp → (is_clone : K → K → Type 0) (kind : JoinKind)
       → (asks_right kind ≡ true → ClonesAreEqual cmp is_clone)
       → (a : OuterJoinArg K V W) (k : K) → asks kind a ≡ true → OldKey is_clone a k → cmp (shown_key a) k ≡ Equal
-  old-equal cmp total is_clone kind clones (Left j v) k i h = subst (λ l. cmp j l ≡ Equal) (sym h) (tied_itself total j)
-  old-equal cmp total is_clone kind clones (Right j w) k i h = clone-equal cmp total is_clone (clones i) j k h
-  old-equal cmp total is_clone kind clones (Both j v w) k i h = subst (λ l. cmp j l ≡ Equal) (sym h) (tied_itself total j)
+  old-equal cmp total is_clone kind clones a k i h = grind (arith, tied_itself total, clone-equal cmp total is_clone)
 
   module _ {X : Type 0} (Keeps : OuterJoinArg K V W → K → Type 0) where
     -- an answer under a key that may be kept
     pub under-key : (a : OuterJoinArg K V W) (key : K) (r : Option X) (mid new : List (K × X)) → Keeps a key
         → MatchOption r (new ≡ mid) (λ x. new ≡ mid ++ (key, x) ∷ [])
         → MatchOption r (new ≡ mid) (λ x. (k : K) × Keeps a k × (new ≡ mid ++ (k, x) ∷ []))
-    under-key a key None mid new h e = e
-    under-key a key (Some x) mid new h e = (key, h, e)
+    under-key a key r mid new h e = grind arith
 
 -- the next element of a list of which i are gone
 pub next-is : {X : Type 0} (all rest : List X) (i : ℕ) (x : X) → rest ≡ drop i all → rest ≡ x ∷ drop 1 rest
     → i < length all → x ≡ get_or all i x
-next-is [] rest i x e f h = absurd (omega arith)
-next-is (y ∷ all) rest zero x e f h = let g : x ∷ drop 1 rest ≡ y ∷ all = sym f ∙ e in cc
-next-is (y ∷ all) rest (suc i) x e f h = let k : i < length all = omega arith in next-is all rest i x e f k
+next-is all rest i x e f h = grind (arith, drop-cons all i x)
 
 -- what holds of each of the first n holds of the next one
 pub each-next : {X : Type 0} (P : X → Type 0) (all : List X) (n i : ℕ) (x : X) → AllByRecursion P (take n all)
     → i < n → i < length all → x ≡ get_or all i x → P x
 each-next P [] n i x p h k e = absurd (omega arith)
 each-next P (y ∷ all) zero i x p h k e = absurd (omega arith)
-each-next P (y ∷ all) (suc n) zero x p h k e = subst P (sym e) p.0
-each-next P (y ∷ all) (suc n) (suc i) x p h k e = let a : i < n = omega arith in let b : i < length all =
-    omega arith in each-next P all n i x p.1 a b e
+each-next P (y ∷ all) (suc n) zero x p h k e = rw e p.0
+each-next P (y ∷ all) (suc n) (suc i) x p h k e = each-next P all n i x p.1 (omega arith) (omega arith) e
 
 module _ {X Y : Type 0} (R : X → Y → Type 0) where
   -- what goes together with the element at a place, where the others go together with the first n of ys
   pub zip-at : (xs : List X) (n : ℕ) (ys rest : List Y) (i : ℕ) (x : X) (y : Y) → AllZip R xs (take n ys)
       → i < length xs → x ≡ get_or xs i x → drop i ys ≡ y ∷ rest → R x y
   zip-at [] n ys rest i x y p h e d = absurd (omega arith)
-  zip-at (z ∷ xs) zero ys rest i x y p h e d = absurd p
-  zip-at (z ∷ xs) (suc n) [] rest i x y p h e d = absurd p
-  zip-at (z ∷ xs) (suc n) (w ∷ ys) rest zero x y p h e d = let same : w ≡ y = cc in
-      subst (λ v. R v y) (sym e) (subst (λ v. R z v) same p.0)
-  zip-at (z ∷ xs) (suc n) (w ∷ ys) rest (suc i) x y p h e d = let k : i < length xs = omega arith in
-      zip-at xs n ys rest i x y p.1 k e d
+  zip-at (z ∷ xs) (suc n) (w ∷ ys) rest zero x y p h e d = grind arith
+  zip-at (z ∷ xs) (suc n) (w ∷ ys) rest (suc i) x y p h e d = zip-at xs n ys rest i x y p.1 (omega arith) e d
+  zip-at xs n ys rest i x y p h e d = absurd p
 
   -- these are enough
   pub zip-within : (xs : List X) (n : ℕ) (ys : List Y) → AllZip R xs (take n ys) → length xs ≤ length ys
   zip-within [] n ys p = omega arith
-  zip-within (z ∷ xs) zero ys p = absurd p
-  zip-within (z ∷ xs) (suc n) [] p = absurd p
-  zip-within (z ∷ xs) (suc n) (w ∷ ys) p = let k = zip-within xs n ys p.1 in omega arith
-
-  pub zip-long : (xs : List X) (ys : List Y) → AllZip R xs ys → length xs ≤ length ys
-  zip-long [] ys p = omega arith
-  zip-long (z ∷ xs) [] p = absurd p
-  zip-long (z ∷ xs) (w ∷ ys) p = let k = zip-long xs ys p.1 in omega arith
+  zip-within (z ∷ xs) (suc n) (w ∷ ys) p = grind (arith, zip-within xs n ys p.1)
+  zip-within xs n ys p = absurd p
 
   -- one more pair of lists that go together
   pub zip-push : (xs : List X) (ys : List Y) (x : X) (y : Y) → AllZip R xs ys → R x y → AllZip R (xs ++ x ∷ []) (ys ++ y ∷ [])
   zip-push [] [] x y p r = (r, tt)
-  zip-push [] (w ∷ ys) x y p r = absurd p
-  zip-push (z ∷ xs) [] x y p r = absurd p
   zip-push (z ∷ xs) (w ∷ ys) x y p r = (p.0, zip-push xs ys x y p.1 r)
+  zip-push xs ys x y p r = absurd p
 
   pub zip-drop : (n : ℕ) (xs : List X) (ys : List Y) → AllZip R xs ys → AllZip R (drop n xs) (drop n ys)
   zip-drop zero xs ys p = p
   zip-drop (suc n) [] [] p = p
-  zip-drop (suc n) [] (y ∷ ys) p = absurd p
-  zip-drop (suc n) (x ∷ xs) [] p = absurd p
   zip-drop (suc n) (x ∷ xs) (y ∷ ys) p = zip-drop n xs ys p.1
+  zip-drop (suc n) xs ys p = absurd p
 
   pub zip-take : (n : ℕ) (xs : List X) (ys : List Y) → AllZip R xs ys → AllZip R (take n xs) (take n ys)
   zip-take zero xs ys p = tt
   zip-take (suc n) [] [] p = p
-  zip-take (suc n) [] (y ∷ ys) p = absurd p
-  zip-take (suc n) (x ∷ xs) [] p = absurd p
   zip-take (suc n) (x ∷ xs) (y ∷ ys) p = (p.0, zip-take n xs ys p.1)
+  zip-take (suc n) xs ys p = absurd p
 
 -- one more key was cloned
 pub keys-more : {K V W : Type 0} (is_clone : K → K → Type 0) (ps : List (K × W)) (i : ℕ) {old mid new : List (K × V)}
@@ -118,23 +92,20 @@ pub keys-more : {K V W : Type 0} (is_clone : K → K → Type 0) (ps : List (K �
     → new ≡ mid ++ q ∷ [] → ClonesKeys is_clone (take i ps) old mid → ClonesKeys is_clone (take (i + 1) ps) old new
 keys-more is_clone ps i {old} {mid} {new} p q h e c f k = record {
   added = k.added ++ q ∷ [];
-  have = subst (λ l. HaveKeys is_clone l (k.added ++ q ∷ []))
-      (ap (λ w. take i ps ++ w ∷ []) e ∙ sym (take_more ps i p h))
-      (zip-push (λ p q. is_clone p.0 q.0) (take i ps) k.added p q k.have c);
-  items = f ∙ ap (λ l. l ++ q ∷ []) k.items ∙ append_assoc old k.added (q ∷ []);
+  have = rw (take_more ps i p h, ← e) (zip-push (λ p q. is_clone p.0 q.0) (take i ps) k.added p q k.have c);
+  items = cc (append_assoc old k.added (q ∷ []));
 }
 
 -- a state has keys if its join asks at the keys of the right
 pub has-keys : (right : Bool) (kind : JoinKind) (P : Type 0) → asks_right kind ≡ right → (asks_right kind ≡ true → P)
     → MatchBool right P (Unit {0})
-has-keys true kind P e h = h e
-has-keys false kind P e h = tt
+has-keys right kind P e h = grind arith
 
 module _ {K V W : Type 0} (is_clone : K → K → Type 0) where
   none-of : (ps : List (K × W)) (qs : List (K × V)) (P : K × W → Type 0)
       → AllByRecursion (λ p. MayAskWith {V = V} false (Right p.0 p.1) × P p) ps → HaveKeys is_clone ps (take (length ps) qs)
   none-of [] qs P h = tt
-  none-of (p ∷ ps) qs P h = absurd (none-asked {V = V} (Right p.0 p.1) p.0 p.1 refl h.0.0)
+  none-of (p ∷ ps) qs P h = grind arith
 
   -- the first n pairs of the right have their clones, if any of them may be asked at
   pub enough-keys : (right : Bool) (ps : List (K × W)) (qs : List (K × V)) (P : K × W → Type 0) (n : ℕ) → n
@@ -142,35 +113,23 @@ module _ {K V W : Type 0} (is_clone : K → K → Type 0) where
       → AllByRecursion (λ p. MayAskWith {V = V} right (Right p.0 p.1) × P p) (take n ps)
       → HaveKeys is_clone (take n ps) (take (length (take n ps)) qs)
   enough-keys true ps qs P n h k p =
-      subst (λ l. HaveKeys is_clone (take n ps) (take l qs)) (sym (length-take-le n ps h))
-      (zip-take (λ p q. is_clone p.0 q.0) n ps qs k)
+      rw (length-take-le n ps h) (zip-take (λ p q. is_clone p.0 q.0) n ps qs k)
   enough-keys false ps qs P n h k p = none-of (take n ps) qs P p
 
   -- what a state has once n pairs of the right were passed
   pub keys-passed : (right : Bool) (ps ps' : List (K × W)) (qs qs' : List (K × V)) (n : ℕ)
       → MatchBool right (HaveKeys is_clone ps qs) (Unit {0}) → ps' ≡ drop n ps → (right ≡ true → qs' ≡ drop n qs)
       → MatchBool right (HaveKeys is_clone ps' qs') (Unit {0})
-  keys-passed true ps ps' qs qs' n k e f =
-      subst (λ l. HaveKeys is_clone l qs') (sym e)
-      (subst (λ l. HaveKeys is_clone (drop n ps) l) (sym (f refl)) (zip-drop (λ p q. is_clone p.0 q.0) n ps qs k))
-  keys-passed false ps ps' qs qs' n k e f = tt
+  keys-passed right ps ps' qs qs' n k e f = grind (arith, zip-drop (λ p q. is_clone p.0 q.0) n ps qs)
 
   -- n of the right are passed, so their clones can be
   pub keys-within : (right : Bool) (ps : List (K × W)) (qs : List (K × V)) (n : ℕ) → right ≡ true → n ≤ length ps
       → MatchBool right (HaveKeys is_clone ps qs) (Unit {0}) → n ≤ length qs
-  keys-within true ps qs n e h k = let l = zip-long (λ p q. is_clone p.0 q.0) ps qs k in omega arith
-  keys-within false ps qs n e h k = absurd (true≢false (sym e))
-
--- what was added between two states, read at the states before and behind
-pub appends-of : {X Z : Type 0} {gives : X → List Z → Type 0} {xs : List X} {old mid mid' new : List Z} → mid ≡ old
-    → new ≡ mid' → Appends gives xs mid mid' → Appends gives xs old new
-appends-of {gives} {xs} {old} {mid} {mid'} {new} e f p =
-    record { added = p.added; gathered = p.gathered; items = f ∙ p.items ∙ ap (λ l. l ++ p.added) e }
+  keys-within right ps qs n e h k = grind (arith, AllZip-long (λ p q. is_clone p.0 q.0) ps qs)
 
 -- a number of clones, as its test reads it
 pub set-true : (n : ℕ) → 0 < n → has_keys n ≡ true
-set-true zero h = absurd (omega arith)
-set-true (suc n) h = refl
+set-true n h = grind arith
 
 pub set-false : (n : ℕ) → n ≡ 0 → has_keys n ≡ false
 set-false n h = ap has_keys h
@@ -182,7 +141,7 @@ appends-in {gives} {xs} {xs'} {old} {old'} {new} {new'} e f h p = rw (sym e, sym
 
 -- what a part from the beginning has
 pub front-part : {X : Type 0} (xs : List X) (e : ℕ) → slice_range xs 0 e ≡ take e xs
-front-part xs e = let k : e - 0 ≡ e = omega arith in ap (λ n. take n xs) k
+front-part xs e = grind arith
 
 -- a join of what was left of two maps, in the list that it was built in
 pub join-moved : {K V W X : Type 0} (cmp : K → K → Ordering) (kind : JoinKind) (May : OuterJoinArg K V W → Option X → Type 0)
@@ -190,4 +149,4 @@ pub join-moved : {K V W X : Type 0} (cmp : K → K → Ordering) (kind : JoinKin
     → xs' ≡ xs → ys' ≡ ys → IsJoin cmp kind left_spelling xs' ys' May Keeps zs' → zs ≡ zs'
     → IsJoin cmp kind left_spelling xs ys May Keeps zs
 join-moved cmp kind May Keeps {xs} {xs'} {ys} {ys'} {zs} {zs'} e f h i =
-    subst (λ l. IsJoin cmp kind left_spelling xs ys May Keeps l) (sym i) (join-of cmp kind May Keeps xs xs' ys ys' zs' e f h)
+    rw i (join-of cmp kind May Keeps xs xs' ys ys' zs' e f h)

@@ -1,23 +1,19 @@
 -- What a test leaves of a map, key by key, and clones of its pairs.
-use Rattle.std.proofs.Common.{arith, ◌≡◌, Bool, true, false, List, [], ◌∷◌, refl, ap, ◌∙◌}
-use Rattle.std.specs.BTreeMap.{is_at}
+use Rattle.std.proofs.Common.{arith, ◌≡◌, Bool, true, false, List, [], ◌∷◌, refl}
 use Rattle.std.specs.Cmp.{IsTotalOrder}
 use Rattle.std.specs.List.{AllZip, items_where_true}
 use Rattle.std.specs.List.Retain.{IsFiltered}
 use Rattle.std.specs.Map.{keys_of}
-use Rattle.std.specs.Ordering.{eq_by_cmp, is_eq, ordering_reverse}
 use Rattle.std.specs.declared.cmp.Ordering.{Ordering}
 use Rattle.std.proofs.lemmas.Cmp.{on_total}
 use Rattle.vc_merge.specs.Ascending.{element_at}
 use Rattle.vc_merge.specs.Yielded.{by_first, keys-ascend}
 use Rattle.vc_merge.proofs.ListLemmas.{pairs-ascend}
 use Rattle.vc_joins.specs.Entries.{AscendsByKey, entry_at}
+use Rattle.vc_sets.proofs.Searching.{equal-turned}
 use Rattle.vc_merge.specs.Retaining.{IsRetained}
 use Rattle.vc_merge.proofs.Chosen.{ascends-chosen}
 use Rattle.vc_merge.proofs.Retained.{asked}
-
-reversed-is_eq : (o : Ordering) → is_eq (ordering_reverse o) ≡ is_eq o
-reversed-is_eq o = grind arith
 
 -- nothing is chosen of an empty list
 none-left : {X : Type 0} (bs : List Bool) (ys : List X) → ys ≡ items_where_true bs [] → ys ≡ []
@@ -30,9 +26,7 @@ module _ {K V : Type 0} (cmp : K → K → Ordering) (total : IsTotalOrder cmp) 
   entry-element : (es : List (K × V)) (k : K) (v : V) → entry_at cmp es k ≡ element_at (by_first cmp) es (k, v)
   entry-element [] k v = refl
   entry-element (e ∷ es) k v =
-      let same : is_at (cmp k) e.0 ≡ eq_by_cmp (by_first cmp) e (k, v) = ap is_eq (total.antisymm k e.0)
-      ∙ reversed-is_eq (cmp e.0 k) in
-      rw (same, entry-element es k v)
+      grind (arith, equal-turned cmp total k e.0, entry-element es k v)
 
   module _ {F : Type 0} (calls : F → K × V → Bool → F → Type 0) where
     pub entries-asked : (f : F) (xs ys : List (K × V)) → AscendsByKey cmp xs → IsFiltered calls f xs ys → (k : K)

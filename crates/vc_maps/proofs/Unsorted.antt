@@ -1,16 +1,14 @@
 -- A list of pairs in any order, sorted by its keys: the first pair with a key is the one at that key.
-use Rattle.std.proofs.Common.{arith, ◌≡◌, Bool, cond, List, [], ◌∷◌, Some, refl, sym, ap, ◌∙◌}
+use Rattle.std.proofs.Common.{◌≡◌, Bool, cond, List, [], ◌∷◌, Some, refl, sym, ap, ◌∙◌}
 use Rattle.std.specs.Cmp.{IsTotalOrder}
 use Rattle.std.specs.List.{dedup, find}
 use Rattle.std.specs.List.Sorted.{IsStableBy}
-use Rattle.std.specs.Ordering.{is_eq, is_lt, ordering_reverse}
+use Rattle.std.specs.Ordering.{is_eq, is_lt}
 use Rattle.std.specs.declared.cmp.Ordering.{Ordering}
 use Rattle.vc_joins.specs.Entries.{entry_at, value_at}
 use Rattle.vc_joins.proofs.Functions.{value-entry}
 use Rattle.vc_merge.proofs.Unordered.{found-unordered}
-
-eq-turned : (o : Ordering) → is_eq (ordering_reverse o) ≡ is_eq o
-eq-turned o = grind arith
+use Rattle.vc_sets.proofs.Searching.{equal-turned}
 
 module _ {K V : Type 0} (cmp : K → K → Ordering) where
   entry-found : (es : List (K × V)) (k : K) → entry_at cmp es k ≡ find (λ e. is_eq (cmp k e.0)) es
@@ -28,5 +26,5 @@ module _ {K V : Type 0} (cmp : K → K → Ordering) where
   entry-unordered total same matches xs ys stable k =
       entry-found (dedup same ys) k
       ∙ found-unordered cmp total (λ e. e.0) (λ e. is_eq (cmp k e.0)) k
-      (λ e. ap is_eq (total.antisymm k e.0) ∙ eq-turned (cmp e.0 k)) same matches xs ys stable
+      (λ e. equal-turned cmp total k e.0) same matches xs ys stable
       ∙ sym (entry-found xs k)

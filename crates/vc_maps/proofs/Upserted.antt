@@ -1,13 +1,13 @@
 -- What a map is once one key was written to, or bound where it was not.
 --     found-entry, gap-entry        what a place tells of the pair at a key
 --     IsUpserted, upserts-known, upserts-new        the clauses of `upsert`
-use Rattle.std.proofs.Common.{◌≡◌, ℕ, true, false, cond, List, get_or, set, length, Option, Some, None}
-use Rattle.std.proofs.Common.{refl, sym, ap, ◌∙◌}
+use Rattle.std.proofs.Common.{◌≡◌, ℕ, false, cond, List, get_or, set, length, Option, Some, None}
+use Rattle.std.proofs.Common.{refl, sym, ap, ◌∙◌, arith}
 use Rattle.std.proofs.lemmas.List.{length-set, set_split}
 use Rattle.std.specs.Cmp.{IsTotalOrder, tied_itself}
 use Rattle.std.specs.List.{refill}
 use Rattle.std.specs.Option.{option_map, unwrap_or}
-use Rattle.std.specs.Ordering.{eq_by_cmp, is_eq}
+use Rattle.std.specs.Ordering.{eq_by_cmp}
 use Rattle.std.specs.declared.cmp.Ordering.{Ordering}
 use Rattle.vc_merge.specs.Place.{IsFound, IsGap}
 use Rattle.vc_joins.specs.Entries.{AscendsByKey, entry_at, value_at}
@@ -15,22 +15,19 @@ use Rattle.vc_maps.specs.Updating.{UpsertsEntry, UpsertsValue}
 use Rattle.vc_maps.proofs.Editing.{IsChanged, found-changed, found-split, found-value, gap-taken}
 use Rattle.vc_maps.proofs.Written.{refilled}
 
-same-key : {K : Type 0} {cmp : K → K → Ordering} → IsTotalOrder cmp → (key : K) → eq_by_cmp cmp key key ≡ true
-same-key total key = ap is_eq (tied_itself total key)
-
 module _ {K V : Type 0} {cmp : K → K → Ordering} (total : IsTotalOrder cmp) where
   module _ {es new : List (K × V)} {key : K} (now : Option (K × V)) (h : IsChanged total es key now new) where
     value-now : value_at cmp new key ≡ option_map (λ p. p.1) now
-    value-now = h.values key ∙ ap (λ b. cond b (option_map (λ p. p.1) now) (value_at cmp es key)) (same-key total key)
+    value-now = grind (arith, h.values key, tied_itself total key)
 
     pub entry-now : entry_at cmp new key ≡ now
-    entry-now = h.entries key ∙ ap (λ b. cond b now (entry_at cmp es key)) (same-key total key)
+    entry-now = grind (arith, h.entries key, tied_itself total key)
 
     pub entry-others : (k : K) → eq_by_cmp cmp k key ≡ false → entry_at cmp new k ≡ entry_at cmp es k
-    entry-others k e = h.entries k ∙ ap (λ b. cond b now (entry_at cmp es k)) e
+    entry-others k e = grind (arith, h.entries k)
 
     value-others : (k : K) → eq_by_cmp cmp k key ≡ false → value_at cmp new k ≡ value_at cmp es k
-    value-others k e = h.values k ∙ ap (λ b. cond b (option_map (λ p. p.1) now) (value_at cmp es k)) e
+    value-others k e = grind (arith, h.values k)
 
   -- ---- what a place tells of the pair at a key
 
@@ -53,9 +50,7 @@ module _ {K V : Type 0} {cmp : K → K → Ordering} (total : IsTotalOrder cmp) 
   whole-list : {es slice : List (K × V)} (i : ℕ) {x : K × V} (w : V) → slice ≡ es → x ≡ get_or slice i x
       → refill (length es) es (set slice i ((get_or slice i x).0, w)) ≡ set es i (x.0, w)
   whole-list {es} {slice} i {x} w e is =
-      ap (λ q. refill (length es) es (set slice i (q.0, w))) (sym is)
-      ∙ ap (λ l. refill (length es) es (set l i (x.0, w))) e
-      ∙ refilled es (set es i (x.0, w)) (length-set es i (x.0, w))
+      rw (← is, e) (refilled es (set es i (x.0, w)) (length-set es i (x.0, w)))
 
   -- ---- a value written to, or put in
 
@@ -75,9 +70,7 @@ module _ {K V : Type 0} {cmp : K → K → Ordering} (total : IsTotalOrder cmp) 
       entry = rw (entry, entry-now (Some (q.0, w)) h) (refl, did);
       others = entry-others (Some (q.0, w)) h;
       other_values = value-others (Some (q.0, w)) h;
-      plain = λ g does k. h.values k
-          ∙ ap (λ x. cond (eq_by_cmp cmp k key) (Some x) (value_at cmp es k))
-          (does q.1 w did ∙ ap (λ o. unwrap_or (option_map g o) default) (sym value));
+      plain = λ g does k. grind (arith, h.values k, does q.1 w did);
     }
 
     pub upserts-new : {es new : List (K × V)} {key : K} (default : V) → value_at cmp es key ≡ None → entry_at cmp es key ≡ None
@@ -87,9 +80,7 @@ module _ {K V : Type 0} {cmp : K → K → Ordering} (total : IsTotalOrder cmp) 
       entry = rw (entry, entry-now (Some (key, default)) h) refl;
       others = entry-others (Some (key, default)) h;
       other_values = value-others (Some (key, default)) h;
-      plain = λ g does k. h.values k
-          ∙ ap (λ x. cond (eq_by_cmp cmp k key) (Some x) (value_at cmp es k))
-          (ap (λ o. unwrap_or (option_map g o) default) (sym value));
+      plain = λ g does k. grind (arith, h.values k);
     }
 
     -- the same of a list that was written through its slice

@@ -1,7 +1,6 @@
 pub mod Asking
 pub mod Borrowed
 pub mod Collecting
-pub mod CombineViews
 pub mod Combining
 pub mod FreshViews
 pub mod Iterating

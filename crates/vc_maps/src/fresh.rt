@@ -223,7 +223,8 @@ impl<
     fn ask_both(&mut self, question: &Q) -> Result<bool, AllocError> {
         let left = &self.a[self.left];
         let right = &self.b[self.right];
-        ask_pair(self.built, question, left, right)?;
+        let answer = question.ask(OuterJoinArg::Both(&left.0, &left.1, &right.1))?;
+        append_answer(self.built, &left.0, answer)?;
         self.pass(Ordering::Equal);
         Ok(true)
     }
@@ -277,27 +278,6 @@ fn ask_rights<
         let answer = ask_right(question, pair)?;
         append_answer(built, &pair.0, answer)?;
     }
-    Ok(())
-}
-
-/// Asks for a pair of each map, which have equal keys.
-#[inline(always)]
-fn ask_pair<
-    K: Clone + Drop,
-    V,
-    W,
-    X: Drop,
-    S: PairList<Key = K, Value = X>,
-    Q: Question<K, V, W, X>,
->(built: &mut S, question: &Q, left: &(K, V), right: &(K, W)) -> Result<(), AllocError>
-    requires { Q.takes question.now (arg.Both left.now.0 left.now.1 right.now.1) }
-    ensures { OnOk result
-        (Appends (λ a. AnswerAdds (λ a r. Q.may question.now a (Ok r)) (ClonedKey K.is_clone)
-        (Some a)) (arg.Both left.now.0 left.now.1 right.now.1 ∷ []) (S.pairs built.old)
-        (S.pairs built.new)) }
-{
-    let answer = question.ask(OuterJoinArg::Both(&left.0, &left.1, &right.1))?;
-    append_answer(built, &left.0, answer)?;
     Ok(())
 }
 

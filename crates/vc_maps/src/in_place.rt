@@ -228,80 +228,6 @@ fn keep_right<K: Drop, V: Drop>(parts: &mut PartsState<'_, (K, V)>, key: K, answ
     }
 }
 
-/// Asks for the first `n` pairs that are left of the left part, whose keys are only in the left
-/// map.
-fn turn_lefts<K: Clone + Drop, V: Drop, W, Q: Turn<K, V, W>, A: Allocator + Copy>(
-    parts: &mut PartsState<'_, (K, V)>,
-    alloc: A,
-    question: &Q,
-    n: usize,
-)
-where
-    (K, V): MadeWith<A>,
-    requires within { n ≤ length (left_items parts.old) }
-    requires takes { AllByRecursion (λ p. Q.takes question.now (arg.Left p.0 p.1))
-        (take n (left_items parts.old)) }
-    ensures name { list_name parts.new ≡ list_name parts.old }
-    ensures left { left_items parts.new ≡ drop n (left_items parts.old) }
-    ensures right { right_items parts.new ≡ right_items parts.old }
-    ensures built { Appends (λ p. AnswerAdds (Q.may question.now) (OldKey K.is_clone)
-        (Some (arg.Left p.0 p.1))) (take n (left_items parts.old)) (built_items parts.old)
-        (built_items parts.new) }
-{
-    'pairs: for at in 0..n {
-        let (key, value) = parts.replace_left(<(K, V)>::made_with(alloc));
-        let answer = turn_left(question, &key, value);
-        keep_left(parts, key, answer);
-    }
-}
-
-/// Asks for each of `pairs`, which are only in the right map. The pairs of the right part have
-/// clones of their keys.
-fn turn_rights<K: Clone + Drop, V: Drop, W, Q: Turn<K, V, W>, A: Allocator + Copy>(
-    parts: &mut PartsState<'_, (K, V)>,
-    alloc: A,
-    question: &Q,
-    pairs: &[(K, W)],
-)
-where
-    (K, V): MadeWith<A>,
-    requires keys { HaveKeys K.is_clone pairs.now
-        (take (length pairs.now) (right_items parts.old)) }
-    requires takes { AllByRecursion (λ p. Q.takes question.now (arg.Right p.0 p.1)) pairs.now }
-    ensures name { list_name parts.new ≡ list_name parts.old }
-    ensures left { left_items parts.new ≡ left_items parts.old }
-    ensures right { right_items parts.new ≡ drop (length pairs.now) (right_items parts.old) }
-    ensures built { Appends (λ p. AnswerAdds (Q.may question.now) (OldKey K.is_clone)
-        (Some (arg.Right p.0 p.1))) pairs.now (built_items parts.old) (built_items parts.new) }
-{
-    'pairs: for pair in pairs {
-        let (key, _) = parts.replace_right(<(K, V)>::made_with(alloc));
-        let answer = turn_right(question, pair);
-        keep_right(parts, key, answer);
-    }
-}
-
-/// Asks for a pair of the left map and a value of the right one, whose keys are equal. The pair is
-/// the first of the left part.
-fn turn_pair<K: Clone + Drop, V: Drop, W, Q: Turn<K, V, W>>(
-    parts: &mut PartsState<'_, (K, V)>,
-    question: &Q,
-    pair: (K, V),
-    other: &W,
-)
-    requires some { 0 < length (left_items parts.old) }
-    requires takes { Q.takes question.now (arg.Both pair.0 pair.1 other.now) }
-    ensures name { list_name parts.new ≡ list_name parts.old }
-    ensures left { left_items parts.new ≡ drop 1 (left_items parts.old) }
-    ensures right { right_items parts.new ≡ right_items parts.old }
-    ensures built { Appends (λ a. AnswerAdds (Q.may question.now) (OldKey K.is_clone) (Some a))
-        (arg.Both pair.0 pair.1 other.now ∷ []) (built_items parts.old) (built_items parts.new) }
-{
-    let (key, value) = pair;
-    let answer = question.turn(OuterJoinArg::Both(&key, value, other));
-    keep_left(parts, key, answer);
-}
-
 /// Asks for the first `n` pairs that are left of the left part, in a list whose parts are at
 /// `spans`. Answers where the parts are after that.
 fn lefts_turned<K: Clone + Drop, V: Drop, W, Q: Turn<K, V, W>, A: Allocator + Copy>(
@@ -325,7 +251,11 @@ where
         (built_at result list.new) }
 {
     let mut parts = PartsState::at(list, spans);
-    turn_lefts(&mut parts, alloc, question, n);
+    'pairs: for at in 0..n {
+        let (key, value) = parts.replace_left(<(K, V)>::made_with(alloc));
+        let answer = turn_left(question, &key, value);
+        keep_left(&mut parts, key, answer);
+    }
     parts.spans()
 }
 
@@ -351,7 +281,11 @@ where
         (Some (arg.Right p.0 p.1))) pairs.now (built_at spans list.old) (built_at result list.new) }
 {
     let mut parts = PartsState::at(list, spans);
-    turn_rights(&mut parts, alloc, question, pairs);
+    'pairs: for pair in pairs {
+        let (key, _) = parts.replace_right(<(K, V)>::made_with(alloc));
+        let answer = question.turn(OuterJoinArg::Right(&pair.0, &pair.1));
+        keep_right(&mut parts, key, answer);
+    }
     parts.spans()
 }
 
@@ -378,8 +312,9 @@ where
         (left_at spans list.old) right.now }
 {
     let mut parts = PartsState::at(list, spans);
-    let pair = parts.replace_left(<(K, V)>::made_with(alloc));
-    turn_pair(&mut parts, question, pair, &right[0].1);
+    let (key, value) = parts.replace_left(<(K, V)>::made_with(alloc));
+    let answer = question.turn(OuterJoinArg::Both(&key, value, &right[0].1));
+    keep_left(&mut parts, key, answer);
     parts.spans()
 }
 
@@ -391,14 +326,6 @@ fn turn_left<'a, K, V, W: 'a, Q: Turn<K, V, W>>(question: &Q, key: &'a K, value:
 {
     let arg: OuterJoinArg<&'a K, V, &'a W> = OuterJoinArg::Left(key, value);
     question.turn(arg)
-}
-
-/// Asks for a pair that is only in the right map.
-fn turn_right<K, V, W, Q: Turn<K, V, W>>(question: &Q, pair: &(K, W)) -> Option<V>
-    requires { Q.takes question.now (arg.Right pair.now.0 pair.now.1) }
-    ensures { Q.may question.now (arg.Right pair.now.0 pair.now.1) result }
-{
-    question.turn(OuterJoinArg::Right(&pair.0, &pair.1))
 }
 
 /// Moves the join of a part of a list with another list to the front. The part is the first `end`
@@ -450,11 +377,11 @@ where
     state.spans.built
 }
 
-/// Appends to a list, for each of `pairs`, a pair with a clone of its key. Answers the place of the
-/// first of them.
+/// Appends to a list, for each of `pairs`, a pair with a clone of its key, unless `KEYS` is 0.
+/// Answers the place of the first of them.
 ///
 /// The only allocation comes before the first clone. On refusal the list has its old pairs.
-fn append_keys<K: Clone + Drop, V: Drop, W, const N: usize, A: Allocator + Copy>(
+fn append_keys<const KEYS: usize, K: Clone + Drop, V: Drop, W, const N: usize, A: Allocator + Copy>(
     list: &mut SmallVec<(K, V), N, A>,
     pairs: &[(K, W)],
 ) -> Result<usize, AllocError>
@@ -463,10 +390,15 @@ where
     ensures behind { IfOk result
         (λ next. (length list.old.items ≤ next) × (next ≤ length list.new.items)) }
     ensures front { OnOk result (take (length list.old.items) list.new.items ≡ list.old.items) }
-    ensures keys { IfOk result (λ next. HaveKeys K.is_clone pairs.now (drop next list.new.items)) }
+    ensures keys { IfOk result (λ next. has_keys KEYS ≡ true
+        → HaveKeys K.is_clone pairs.now (drop next list.new.items)) }
+    ensures no_memory { KEYS ≡ 0 → IsOk result }
     ensures err { OnErr result (list.new.items ≡ list.old.items) }
 {
     let end = list.len();
+    if KEYS == 0 {
+        return Ok(end);
+    }
     open_gap(list, pairs.len())?;
     let next = list.len();
     let cloned = push_keys(list, pairs);
@@ -497,47 +429,11 @@ where
     Ok(())
 }
 
-/// The join of a list of pairs with another one, in place, of a kind that asks for the keys of the
-/// left map or of both. Takes no memory.
-fn join_known<
-    K: Ord + Clone + Drop,
-    V: Drop,
-    W,
-    Q: Turn<K, V, W>,
-    C: Count,
-    const N: usize,
-    A: Allocator + Copy,
->(list: &mut SmallVec<(K, V), N, A>, that: &[(K, W)], kind: JoinKind, question: &Q, steps: &mut C)
-where
-    (K, V): MadeWith<A>,
-    requires kind { asks_right kind ≡ false }
-    requires this_ascends { AscendsByKey K.cmp list.old.items }
-    requires that_ascends { AscendsByKey K.cmp that.now }
-    requires takes { TakesEach K.cmp kind (Q.takes question.now) list.old.items that.now }
-    ensures joins { IsJoin K.cmp kind left_spelling list.old.items that.now (Q.may question.now)
-        (OldKey K.is_clone) list.new.items }
-    ensures counted { C.counted steps.new
-        ≤ C.counted steps.old + bound (length list.old.items) (length that.now) }
-{
-    let alloc = *list.allocator();
-    let end = list.len();
-    let op = JoinOp { kind, question };
-    let kept = join_parts::<0, _, _, _, _, _, _>(
-        &alloc,
-        list.as_mut_slice(),
-        end,
-        end,
-        that,
-        &op,
-        steps,
-    );
-    list.truncate(kept);
-}
-
-/// The join of a list of pairs with another one, in place, of a kind that asks for the keys of the
-/// right map. The only allocation and all clones come before the first question. On refusal there
-/// the list has its old pairs.
-fn join_with_keys<
+/// The join of a list of pairs with another one, in place. If `KEYS` is not 0, the kind asks for
+/// the keys of the right map. The only allocation and all clones come before the first question. On
+/// refusal there the list has its old pairs.
+fn join_in<
+    const KEYS: usize,
     K: Ord + Clone + Drop,
     V: Drop,
     W,
@@ -554,22 +450,23 @@ fn join_with_keys<
 ) -> Result<(), AllocError>
 where
     (K, V): MadeWith<A>,
-    requires kind { asks_right kind ≡ true }
+    requires kind { asks_right kind ≡ has_keys KEYS }
     requires this_ascends { AscendsByKey K.cmp list.old.items }
     requires that_ascends { AscendsByKey K.cmp that.now }
-    requires clones { ClonesAreEqual K.cmp K.is_clone }
+    requires clones { asks_right kind ≡ true → ClonesAreEqual K.cmp K.is_clone }
     requires takes { TakesEach K.cmp kind (Q.takes question.now) list.old.items that.now }
     ensures joins { OnOk result (IsJoin K.cmp kind left_spelling list.old.items that.now
         (Q.may question.now) (OldKey K.is_clone) list.new.items) }
     ensures counted { C.counted steps.new
         ≤ C.counted steps.old + bound (length list.old.items) (length that.now) }
+    ensures no_memory { KEYS ≡ 0 → IsOk result }
     ensures err { OnErr result (list.new.items ≡ list.old.items) }
 {
     let alloc = *list.allocator();
     let end = list.len();
-    let next = append_keys(list, that)?;
+    let next = append_keys::<KEYS, _, _, _, _, _>(list, that)?;
     let op = JoinOp { kind, question };
-    let kept = join_parts::<1, _, _, _, _, _, _>(
+    let kept = join_parts::<KEYS, _, _, _, _, _, _>(
         &alloc,
         list.as_mut_slice(),
         end,
@@ -616,9 +513,8 @@ where
     ensures err { OnErr result (list.new.items ≡ list.old.items) }
 {
     if kind.asks_right() {
-        join_with_keys(list, that, kind, question, steps)
+        join_in::<1, _, _, _, _, _, _, _>(list, that, kind, question, steps)
     } else {
-        join_known(list, that, kind, question, steps);
-        Ok(())
+        join_in::<0, _, _, _, _, _, _, _>(list, that, kind, question, steps)
     }
 }

@@ -1,6 +1,6 @@
 //! The merge operation of all joins: at each event it asks a question, if the kind of join asks one
 //! there.
-ghost use Rattle.std.specs.Prelude.{◌≡◌, ℕ, ◌<◌, ◌≤◌, true, false, take, drop, length, IfOk};
+ghost use Rattle.std.specs.Prelude.{◌≡◌, ℕ, ◌<◌, ◌≤◌, true, false, take, length};
 ghost use Rattle.std.specs.Bool.{MatchBool};
 ghost use Rattle.std.specs.List.{AllByRecursion};
 ghost use Rattle.std.specs.declared.cmp.Ordering.TheVariants.{Equal};
@@ -13,7 +13,7 @@ ghost use Rattle.vc_merge.specs.Chain.{Answer};
 ghost use Rattle.vc_merge.specs.Count.{ticked};
 ghost use Rattle.vc_merge.specs.Fronts.{HeadsCompare};
 ghost use Rattle.vc_merge.specs.Script.{BothAscend};
-ghost use Rattle.vc_merge.specs.Takes.{TakesLesser};
+ghost use Rattle.vc_merge.specs.Takes.{TakesBoth, TakesLeft, TakesLesser, TakesRight};
 
 use std::alloc::AllocError;
 use std::cmp::Ordering;
@@ -39,9 +39,7 @@ pub trait JoinState<K, V, W, Q>: MergeStateMut<A = (K, V), B = (K, W)> {
         requires takes { AllByRecursion (λ p. takes question.now (arg.Left p.0 p.1))
             (take n (Self.left self.old)) }
         ensures gives { asks_a question.now self.old n result self.new }
-        ensures passes { IfOk result (λ go_on. go_on ≡ true
-            → (Self.left self.new ≡ drop n (Self.left self.old))
-            × (Self.right self.new ≡ Self.right self.old) × Self.ready self.new) };
+        ensures passes { TakesLeft Self.left Self.right Self.ready n self.old result self.new };
 
     /// Asks for the first `n` pairs of the right map, whose keys only this map has, and passes
     /// them.
@@ -51,9 +49,7 @@ pub trait JoinState<K, V, W, Q>: MergeStateMut<A = (K, V), B = (K, W)> {
         requires takes { AllByRecursion (λ p. takes question.now (arg.Right p.0 p.1))
             (take n (Self.right self.old)) }
         ensures gives { asks_b question.now self.old n result self.new }
-        ensures passes { IfOk result (λ go_on. go_on ≡ true
-            → (Self.left self.new ≡ Self.left self.old)
-            × (Self.right self.new ≡ drop n (Self.right self.old)) × Self.ready self.new) };
+        ensures passes { TakesRight Self.left Self.right Self.ready n self.old result self.new };
 
     /// Asks for the first pair of each map, which have equal keys, and passes both.
     fn ask_both(&mut self, question: &Q) -> Result<bool, AllocError>
@@ -61,9 +57,7 @@ pub trait JoinState<K, V, W, Q>: MergeStateMut<A = (K, V), B = (K, W)> {
         requires takes { AtHeads (λ p q. takes question.now (arg.Both p.0 p.1 q.1))
             (Self.left self.old) (Self.right self.old) }
         ensures gives { asks_both question.now self.old result self.new }
-        ensures passes { IfOk result (λ go_on. go_on ≡ true
-            → (Self.left self.new ≡ drop 1 (Self.left self.old))
-            × (Self.right self.new ≡ drop 1 (Self.right self.old)) × Self.ready self.new) };
+        ensures passes { TakesBoth Self.left Self.right Self.ready self.old result self.new };
 
     /// Asks for the first pairs, whose keys compare as `heads`, and passes the lesser one, or both.
     #[inline(always)]

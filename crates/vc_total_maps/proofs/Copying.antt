@@ -5,17 +5,12 @@ use Rattle.std.specs.Cmp.{IsEquivalence, IsTotalOrder}
 use Rattle.std.specs.List.{AllByRecursion, AllZip, filter}
 use Rattle.std.specs.List.Retain.{IsFiltered}
 use Rattle.std.proofs.lemmas.Fn.{filter_same}
-use Rattle.std.specs.Ordering.{is_eq, ordering_reverse}
+use Rattle.std.specs.Ordering.{is_eq}
 use Rattle.std.specs.declared.cmp.Ordering.{Ordering}
-use Rattle.std.specs.declared.cmp.Ordering.TheVariants.{Less, Equal, Greater}
 use Rattle.vc_joins.specs.Entries.{value_at}
 use Rattle.vc_merge.specs.Clones.{ClonesAreEqual}
+use Rattle.vc_sets.proofs.Searching.{equal-turned}
 use Rattle.vc_total_maps.specs.TotalMap.{NoneIsDefault, total_map}
-
-reversed-is_eq : (o : Ordering) → is_eq (ordering_reverse o) ≡ is_eq o
-reversed-is_eq Less = refl
-reversed-is_eq Equal = refl
-reversed-is_eq Greater = refl
 
 -- both are there, and related, or neither is
 abbrev pub Alike : {V W : Type 0} → (V → W → Type 0) → Option V → Option W → Type 0
@@ -32,17 +27,13 @@ pick-alike S false true v w o p e s h = let wrong : false ≡ true = e in cc
 pick-alike S false false v w o p e s h = h
 
 module _ {K : Type 0} (cmp : K → K → Ordering) (total : IsTotalOrder cmp) where
-  -- whether a key is sought is told in either order
-  sought : (k x : K) → is_at (cmp k) x ≡ is_eq (cmp x k)
-  sought k x = ap is_eq (total.antisymm k x) ∙ reversed-is_eq (cmp x k)
-
   module _ {V W : Type 0} (R : K → K → Type 0) (clones : ClonesAreEqual cmp R) (S : V → W → Type 0) where
     pub values-alike : (xs : List (K × V)) (ys : List (K × W)) → AllZip (λ p q. R p.0 q.0 × S p.1 q.1) xs ys
         → (k : K) → Alike S (value_at cmp xs k) (value_at cmp ys k)
     values-alike [] [] h k = tt
     values-alike (x ∷ xs) (y ∷ ys) h k =
-        let same : is_at (cmp k) x.0 ≡ is_at (cmp k) y.0 = sought k x.0 ∙ ap is_eq (clones x.0 y.0 h.0.0 k)
-        ∙ sym (sought k y.0) in
+        let same : is_at (cmp k) x.0 ≡ is_at (cmp k) y.0 = equal-turned cmp total k x.0
+        ∙ ap is_eq (clones x.0 y.0 h.0.0 k) ∙ equal-turned cmp total y.0 k in
         pick-alike S (is_at (cmp k) x.0) (is_at (cmp k) y.0) x.1 y.1 (value_at cmp xs k)
         (value_at cmp ys k) same h.0.1 (values-alike xs ys h.1 k)
     values-alike x y h k = absurd h

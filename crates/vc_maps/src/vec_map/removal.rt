@@ -6,7 +6,6 @@ ghost use Rattle.vc_joins.specs.Entries.{entry_at, value_at};
 use super::VecMap;
 use std::alloc::{AllocError, Allocator};
 use std::default::MadeWith;
-use vc_merge::search::find_key;
 
 impl<K: Ord + Drop, V: Drop, const N: usize, A: Allocator + Copy> VecMap<K, V, N, A>
 where
@@ -30,13 +29,7 @@ where
         ensures entries { (k : K) → entry_at K.cmp self.new k
             ≡ cond (eq_by_cmp K.cmp k key.now) None (entry_at K.cmp self.old k) }
     {
-        match find_key(self.pairs.as_slice(), key) {
-            Ok(place) => {
-                let (_, value) = self.pairs.remove(place);
-                Some(value)
-            }
-            Err(_) => None,
-        }
+        self.remove_by(key)
     }
 
     /// Drops all pairs. The list keeps its capacity, so that as many can be inserted again without

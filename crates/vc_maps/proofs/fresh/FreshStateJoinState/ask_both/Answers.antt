@@ -1,7 +1,8 @@
-use Rattle.std.proofs.Common.{ap, refl}
+use Rattle.std.proofs.Common.{ap, refl, Ok}
 use Rattle.std.proofs.lemmas.List.{drop_more}
 use Rattle.vc_merge.proofs.LesserTaken.{within-left}
-use Rattle.vc_maps.proofs.Joined.{heads-some}
+use Rattle.vc_joins.specs.Question.{shown_key}
+use Rattle.vc_maps.proofs.Joined.{asked-once, heads-some}
 use Rattle.vc_maps.specs.FreshViews.{left_pairs, right_pairs}
 use Rattle.vc_maps.proofs.fresh.FreshStateJoinState.ask_both.Goals as goal
 
@@ -14,5 +15,9 @@ returns-clause-gives g c =
       drop_more s.a.now s.left c.index-self-self.result (within-left s.a.now s.left some.0),
       drop_more s.b.now s.right c.index-self-self-2.result (within-left s.b.now s.right some.1),
       built,
+    ) (
+      refl,
+      ap (λ r. r.ghost_name) c.pass.ensures.same_reference,
+      asked-once (λ a r. g.Q.Question.may c.args.question.now a (Ok r)) (λ a. g.K.Clone.is_clone (shown_key a)) _
+          c.in_ok-answer.answer _ _ c.in_ok-answer.ensures c.in_ok-append_answer.ensures,
     )
-    (refl, ap (λ r. r.ghost_name) c.pass.ensures.same_reference, c.in_ok-ask_pair.ensures)

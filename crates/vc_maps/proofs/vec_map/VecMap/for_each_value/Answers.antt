@@ -13,12 +13,6 @@ invariant_of-self g c =
     subst (Ascends g.K.Ord.cmp)
     (sym (ap keys_of whole ∙ written-keys (WritesAt g.F.FnMut) _ _ _ w.0 w.1 ∙ ap keys_of same)) c.self.invariant
 
-pub returns-clause-keys : goal.returns-clause-keys
-returns-clause-keys g c =
-    let same = c.as_mut_slice.ensures.value in let w = c.write_each.ensures in
-    let whole = refilled c.self.inside.pairs.items c.write_each.new.pairs (c.write_each.auto.pairs ∙ ap length same) in
-    ap keys_of whole ∙ written-keys (WritesAt g.F.FnMut) _ _ _ w.0 w.1 ∙ ap keys_of (same ∙ c.self.view_is)
-
 pub returns-clause-values : goal.returns-clause-values
 returns-clause-values g c =
     let same = c.as_mut_slice.ensures.value in let w = c.write_each.ensures in
@@ -26,6 +20,9 @@ returns-clause-values g c =
       w.0,
       rw whole (rw (same, c.self.view_is) at w.1),
     )
+
+pub returns-clause-keys : goal.returns-clause-keys
+returns-clause-keys g c = let w = returns-clause-values g c in written-keys (WritesAt g.F.FnMut) _ _ _ w.0 w.1
 
 pub returns-clause-entries : goal.returns-clause-entries
 returns-clause-entries g c k =

@@ -1,4 +1,4 @@
-use Rattle.std.proofs.Common.{◌≡◌, ◌<◌, length, Result, Ok, Err, refl, ◌∙◌, rules}
+use Rattle.std.proofs.Common.{◌≡◌, ◌<◌, length, Result, refl, ◌∙◌, rules, arith}
 use mathlib.Core.Bool.{false≢true}
 use mathlib.Core.Option as maybe
 use Rattle.std.specs.Borrow.{MutBor, name_if_ok}
@@ -12,12 +12,10 @@ use Rattle.vc_maps.proofs.vec_map.VecMap.get_or_insert_with.Goals as goal
 -- refused, the map is as it was
 left : {V E L : Type 0} (bound : V → Type 0) (r : Result (MutBor V) E) (now new : L) → IsErr r → new ≡ now
     → (maybe.none ≡ name_if_ok (λ x. x.ghost_name) r) × ((w : V) → IsOk r → bound w) × OnErr r (new ≡ now)
-left bound (Ok x) now new h e = absurd (false≢true h)
-left bound (Err x) now new h e = (refl, (λ w ok. absurd (false≢true ok)), e)
+left bound r now new h e = grind arith
 
 nothing-lent : {X E : Type 0} (P : X → Type 0) (r : Result X E) → IsErr r → IfOk r P
-nothing-lent P (Ok x) h = absurd (false≢true h)
-nothing-lent P (Err x) h = tt
+nothing-lent P r h = grind arith
 
 pub returns-in_err-place : goal.returns-in_err-place
 returns-in_err-place g c = (

@@ -1,4 +1,4 @@
-use Rattle.std.proofs.Common.{◌≡◌, ◌<◌, get_or, length, Some, ap, refl, sym}
+use Rattle.std.proofs.Common.{◌≡◌, ◌<◌, get_or, length, Some, ap, refl, sym, rules}
 use mathlib.Core.Bool.{true≢false}
 use Rattle.std.specs.Cmp.{tied_itself}
 use Rattle.std.specs.Map.Calls.{MayWrite}
@@ -33,8 +33,8 @@ invariant_of-self g c =
     (upserts-place g.met.K.Ord.total (MayWrite g.F.FnOnce c.args.f) c.args.default c.as_mut_slice.ensures.value found
     c.index-as_mut_slice-place.is c.self.invariant c.f.new.arg2 did).ascends
 
-pub returns-in-Ok-clause-value : goal.returns-in-Ok-clause-value
-returns-in-Ok-clause-value g c =
+pub returns-in-Ok : goal.returns-in-Ok
+returns-in-Ok g c =
     let found = rw c.as_slice.ensures at c.in-Ok.ensures in
     let did : MayWrite g.F.FnOnce c.args.f c.index-as_mut_slice-place.result.1 c.f.new.arg2 =
     record {
@@ -45,68 +45,18 @@ returns-in-Ok-clause-value g c =
       met = c.f.ensures;
       after = refl;
     } in
-    rw (← c.self.view_is) (upserts-place g.met.K.Ord.total (MayWrite g.F.FnOnce c.args.f) c.args.default c.as_mut_slice.ensures.value found
-    c.index-as_mut_slice-place.is c.self.invariant c.f.new.arg2 did).says.value
-
-pub returns-in-Ok-clause-entry : goal.returns-in-Ok-clause-entry
-returns-in-Ok-clause-entry g c =
-    let found = rw c.as_slice.ensures at c.in-Ok.ensures in
-    let did : MayWrite g.F.FnOnce c.args.f c.index-as_mut_slice-place.result.1 c.f.new.arg2 =
+    let says = (upserts-place g.met.K.Ord.total (MayWrite g.F.FnOnce c.args.f) c.args.default
+    c.as_mut_slice.ensures.value found c.index-as_mut_slice-place.is c.self.invariant c.f.new.arg2 did).says in
     record {
-      lent = _;
-      result = c.f.result;
-      left = _;
-      before = ap (λ q. q.1) (sym c.index-as_mut_slice-place.is);
-      met = c.f.ensures;
-      after = refl;
-    } in
-    rw (← c.self.view_is) (upserts-place g.met.K.Ord.total (MayWrite g.F.FnOnce c.args.f) c.args.default c.as_mut_slice.ensures.value found
-    c.index-as_mut_slice-place.is c.self.invariant c.f.new.arg2 did).says.entry
-
-pub returns-in-Ok-clause-others : goal.returns-in-Ok-clause-others
-returns-in-Ok-clause-others g c =
-    let found = rw c.as_slice.ensures at c.in-Ok.ensures in
-    let did : MayWrite g.F.FnOnce c.args.f c.index-as_mut_slice-place.result.1 c.f.new.arg2 =
-    record {
-      lent = _;
-      result = c.f.result;
-      left = _;
-      before = ap (λ q. q.1) (sym c.index-as_mut_slice-place.is);
-      met = c.f.ensures;
-      after = refl;
-    } in
-    rw (← c.self.view_is) (upserts-place g.met.K.Ord.total (MayWrite g.F.FnOnce c.args.f) c.args.default c.as_mut_slice.ensures.value found
-    c.index-as_mut_slice-place.is c.self.invariant c.f.new.arg2 did).says.others
-
-pub returns-in-Ok-clause-other_values : goal.returns-in-Ok-clause-other_values
-returns-in-Ok-clause-other_values g c =
-    let found = rw c.as_slice.ensures at c.in-Ok.ensures in
-    let did : MayWrite g.F.FnOnce c.args.f c.index-as_mut_slice-place.result.1 c.f.new.arg2 =
-    record {
-      lent = _;
-      result = c.f.result;
-      left = _;
-      before = ap (λ q. q.1) (sym c.index-as_mut_slice-place.is);
-      met = c.f.ensures;
-      after = refl;
-    } in
-    rw (← c.self.view_is) (upserts-place g.met.K.Ord.total (MayWrite g.F.FnOnce c.args.f) c.args.default c.as_mut_slice.ensures.value found
-    c.index-as_mut_slice-place.is c.self.invariant c.f.new.arg2 did).says.other_values
-
-pub returns-in-Ok-clause-plain : goal.returns-in-Ok-clause-plain
-returns-in-Ok-clause-plain g c =
-    let found = rw c.as_slice.ensures at c.in-Ok.ensures in
-    let did : MayWrite g.F.FnOnce c.args.f c.index-as_mut_slice-place.result.1 c.f.new.arg2 =
-    record {
-      lent = _;
-      result = c.f.result;
-      left = _;
-      before = ap (λ q. q.1) (sym c.index-as_mut_slice-place.is);
-      met = c.f.ensures;
-      after = refl;
-    } in
-    rw (← c.self.view_is) (upserts-place g.met.K.Ord.total (MayWrite g.F.FnOnce c.args.f) c.args.default c.as_mut_slice.ensures.value found
-    c.index-as_mut_slice-place.is c.self.invariant c.f.new.arg2 did).says.plain
+      value = rw (← c.self.view_is) says.value;
+      entry = rw (← c.self.view_is) says.entry;
+      others = rw (← c.self.view_is) says.others;
+      other_values = rw (← c.self.view_is) says.other_values;
+      plain = rw (← c.self.view_is) says.plain;
+      known = search rules;
+      room = search rules;
+      err = search rules;
+    }
 
 -- ---- a new key
 
@@ -115,50 +65,23 @@ invariant_of-self-in-Err-1 g c =
     (gap-changed g.met.K.Ord.total c.as_slice.ensures c.in-Err.ensures c.self.invariant (Some (c.args.key, c.args.default))
     (tied_itself g.met.K.Ord.total c.args.key) c.in_ok-insert_at-in-Err.ensures.ok).ascends
 
-pub returns-in_ok-insert_at-in-Err-clause-value :
-    goal.returns-in_ok-insert_at-in-Err-clause-value
-returns-in_ok-insert_at-in-Err-clause-value g c =
+pub returns-in_ok-insert_at-in-Err : goal.returns-in_ok-insert_at-in-Err
+returns-in_ok-insert_at-in-Err g c =
     let gap = rw c.as_slice.ensures at c.in-Err.ensures in
-    rw (← c.self.view_is) (upserts-new g.met.K.Ord.total (MayWrite g.F.FnOnce c.args.f) c.args.default
+    let says = upserts-new g.met.K.Ord.total (MayWrite g.F.FnOnce c.args.f) c.args.default
     (gap-value g.met.K.Ord.total gap) (gap-entry g.met.K.Ord.total gap c.self.invariant)
     (gap-changed g.met.K.Ord.total c.as_slice.ensures c.in-Err.ensures c.self.invariant (Some (c.args.key, c.args.default))
-    (tied_itself g.met.K.Ord.total c.args.key) c.in_ok-insert_at-in-Err.ensures.ok)).value
-
-pub returns-in_ok-insert_at-in-Err-clause-entry :
-    goal.returns-in_ok-insert_at-in-Err-clause-entry
-returns-in_ok-insert_at-in-Err-clause-entry g c =
-    let gap = rw c.as_slice.ensures at c.in-Err.ensures in
-    rw (← c.self.view_is) (upserts-new g.met.K.Ord.total (MayWrite g.F.FnOnce c.args.f) c.args.default
-    (gap-value g.met.K.Ord.total gap) (gap-entry g.met.K.Ord.total gap c.self.invariant)
-    (gap-changed g.met.K.Ord.total c.as_slice.ensures c.in-Err.ensures c.self.invariant (Some (c.args.key, c.args.default))
-    (tied_itself g.met.K.Ord.total c.args.key) c.in_ok-insert_at-in-Err.ensures.ok)).entry
-
-pub returns-in_ok-insert_at-in-Err-clause-others :
-    goal.returns-in_ok-insert_at-in-Err-clause-others
-returns-in_ok-insert_at-in-Err-clause-others g c =
-    let gap = rw c.as_slice.ensures at c.in-Err.ensures in
-    rw (← c.self.view_is) (upserts-new g.met.K.Ord.total (MayWrite g.F.FnOnce c.args.f) c.args.default
-    (gap-value g.met.K.Ord.total gap) (gap-entry g.met.K.Ord.total gap c.self.invariant)
-    (gap-changed g.met.K.Ord.total c.as_slice.ensures c.in-Err.ensures c.self.invariant (Some (c.args.key, c.args.default))
-    (tied_itself g.met.K.Ord.total c.args.key) c.in_ok-insert_at-in-Err.ensures.ok)).others
-
-pub returns-in_ok-insert_at-in-Err-clause-other_values :
-    goal.returns-in_ok-insert_at-in-Err-clause-other_values
-returns-in_ok-insert_at-in-Err-clause-other_values g c =
-    let gap = rw c.as_slice.ensures at c.in-Err.ensures in
-    rw (← c.self.view_is) (upserts-new g.met.K.Ord.total (MayWrite g.F.FnOnce c.args.f) c.args.default
-    (gap-value g.met.K.Ord.total gap) (gap-entry g.met.K.Ord.total gap c.self.invariant)
-    (gap-changed g.met.K.Ord.total c.as_slice.ensures c.in-Err.ensures c.self.invariant (Some (c.args.key, c.args.default))
-    (tied_itself g.met.K.Ord.total c.args.key) c.in_ok-insert_at-in-Err.ensures.ok)).other_values
-
-pub returns-in_ok-insert_at-in-Err-clause-plain :
-    goal.returns-in_ok-insert_at-in-Err-clause-plain
-returns-in_ok-insert_at-in-Err-clause-plain g c =
-    let gap = rw c.as_slice.ensures at c.in-Err.ensures in
-    rw (← c.self.view_is) (upserts-new g.met.K.Ord.total (MayWrite g.F.FnOnce c.args.f) c.args.default
-    (gap-value g.met.K.Ord.total gap) (gap-entry g.met.K.Ord.total gap c.self.invariant)
-    (gap-changed g.met.K.Ord.total c.as_slice.ensures c.in-Err.ensures c.self.invariant (Some (c.args.key, c.args.default))
-    (tied_itself g.met.K.Ord.total c.args.key) c.in_ok-insert_at-in-Err.ensures.ok)).plain
+    (tied_itself g.met.K.Ord.total c.args.key) c.in_ok-insert_at-in-Err.ensures.ok) in
+    record {
+      value = rw (← c.self.view_is) says.value;
+      entry = rw (← c.self.view_is) says.entry;
+      others = rw (← c.self.view_is) says.others;
+      other_values = rw (← c.self.view_is) says.other_values;
+      plain = rw (← c.self.view_is) says.plain;
+      known = search rules;
+      room = search rules;
+      err = search rules;
+    }
 
 pub returns-in_err-insert_at-in-Err-clause-room : goal.returns-in_err-insert_at-in-Err-clause-room
 returns-in_err-insert_at-in-Err-clause-room g c = λ h.

@@ -12,28 +12,23 @@ use Rattle.vc_merge.specs.Yielded.{by_first, keys-ascend}
 use Rattle.vc_maps.proofs.Unsorted.{entry-unordered}
 use Rattle.vc_maps.proofs.vec_map.collecting.put_in_order.Goals as goal
 
-pub returns-clause-ascends : goal.returns-clause-ascends
-returns-clause-ascends g c =
+pub returns : goal.returns
+returns g c =
     let cmp = g.K.Ord.cmp in
     let whole = items-with_items (record { items = c.args.list.now.items; capacity = 0 }) c.sort_by.new.self
     (c.sort_by.ensures.len ∙ c.reverse.ensures.len ∙ ap length c.as_mut_slice-pairs.ensures.value) in
     let lost = dedup_same _ (λ x y. g.K.PartialEq.eq x.0 y.0) _
-    (λ x y b f' x' y' k. search rules) _ _ c.dedup_by.ensures.filtered in
-    rw (lost ∙ ap (dedup (λ x y. g.K.PartialEq.eq x.0 y.0)) whole)
-    (keys-ascend cmp _
-    (IsStrictlySortedBy-dedup {R = by_first cmp} (on_total (λ q. q.0) g.met.K.Ord.total) (λ x y. g.met.K.Ord.matches_eq x.0 y.0) _
-    (c.in_ok-sort_by.ensures.sorted (λ x y. is_lt (cmp x.0 y.0)) (ranks_by g.met.K.Ord.total (λ e. e.0))
-    (always_returns_same _ _ _ (λ a r f' k. search rules)))))
-
-pub returns-clause-entries : goal.returns-clause-entries
-returns-clause-entries g c = λ k.
-    let cmp = g.K.Ord.cmp in
-    let whole = items-with_items (record { items = c.args.list.now.items; capacity = 0 }) c.sort_by.new.self
-    (c.sort_by.ensures.len ∙ c.reverse.ensures.len ∙ ap length c.as_mut_slice-pairs.ensures.value) in
-    let lost = dedup_same _ (λ x y. g.K.PartialEq.eq x.0 y.0) _
-    (λ x y b f' x' y' k. search rules) _ _ c.dedup_by.ensures.filtered in
-    ap (λ l. entry_at cmp l k) (lost ∙ ap (dedup (λ x y. g.K.PartialEq.eq x.0 y.0)) whole)
-    ∙ entry-unordered cmp g.met.K.Ord.total (λ x y. g.K.PartialEq.eq x.0 y.0) (λ x y. g.met.K.Ord.matches_eq x.0 y.0) _ _
-    (c.in_ok-sort_by.ensures.stable (λ x y. is_lt (cmp x.0 y.0)) (ranks_by g.met.K.Ord.total (λ e. e.0))
-    (always_returns_same _ _ _ (λ a r f' k. search rules))) k
-    ∙ ap (λ l. entry_at cmp l k) (c.reverse.ensures.after ∙ ap reverse c.as_mut_slice-pairs.ensures.value)
+    (λ x y b f' x' y' k. search rules) _ _ c.dedup_by.ensures.filtered
+    ∙ ap (dedup (λ x y. g.K.PartialEq.eq x.0 y.0)) whole in
+    record {
+      ascends = rw lost
+          (keys-ascend cmp _
+          (IsStrictlySortedBy-dedup {R = by_first cmp} (on_total (λ q. q.0) g.met.K.Ord.total) (λ x y. g.met.K.Ord.matches_eq x.0 y.0) _
+          (c.in_ok-sort_by.ensures.sorted (λ x y. is_lt (cmp x.0 y.0)) (ranks_by g.met.K.Ord.total (λ e. e.0))
+          (always_returns_same _ _ _ (λ a r f' k. search rules)))));
+      entries = λ k. ap (λ l. entry_at cmp l k) lost
+          ∙ entry-unordered cmp g.met.K.Ord.total (λ x y. g.K.PartialEq.eq x.0 y.0) (λ x y. g.met.K.Ord.matches_eq x.0 y.0) _ _
+          (c.in_ok-sort_by.ensures.stable (λ x y. is_lt (cmp x.0 y.0)) (ranks_by g.met.K.Ord.total (λ e. e.0))
+          (always_returns_same _ _ _ (λ a r f' k. search rules))) k
+          ∙ ap (λ l. entry_at cmp l k) (c.reverse.ensures.after ∙ ap reverse c.as_mut_slice-pairs.ensures.value);
+    }

@@ -1,4 +1,4 @@
-use Rattle.std.proofs.Common.{sym}
+use Rattle.std.proofs.Common.{sym, rules}
 use mathlib.Core.Bool.{true≢false}
 use Rattle.vc_maps.proofs.Bound.{put-known, put-new}
 use Rattle.vc_maps.proofs.Editing.{gap-value}
@@ -19,29 +19,20 @@ returns-in-Ok-clause-entry g c =
 pub make-requires : goal.make-requires
 make-requires g c = c.requires.callable (gap-value g.met.K.Ord.total (rw c.as_slice.ensures at c.in-Err.ensures))
 
-pub returns-in_ok-insert_at-in-Err-clause-found : goal.returns-in_ok-insert_at-in-Err-clause-found
-returns-in_ok-insert_at-in-Err-clause-found g c =
-    (put-new g.met.K.Ord.total (λ v. g.F.FnOnce.post c.args.make tt v) c.args.pairs.now.items c.args.key c.make.result
-    c.as_slice.ensures c.in-Err.ensures c.requires.ascends c.make.ensures c.make_room.ensures.items
-    c.in_ok-insert_at-in-Err.ensures.ok).found
-
-pub returns-in_ok-insert_at-in-Err-clause-ascends : goal.returns-in_ok-insert_at-in-Err-clause-ascends
-returns-in_ok-insert_at-in-Err-clause-ascends g c =
-    (put-new g.met.K.Ord.total (λ v. g.F.FnOnce.post c.args.make tt v) c.args.pairs.now.items c.args.key c.make.result
-    c.as_slice.ensures c.in-Err.ensures c.requires.ascends c.make.ensures c.make_room.ensures.items
-    c.in_ok-insert_at-in-Err.ensures.ok).ascends
-
-pub returns-in_ok-insert_at-in-Err-clause-entry : goal.returns-in_ok-insert_at-in-Err-clause-entry
-returns-in_ok-insert_at-in-Err-clause-entry g c =
-    (put-new g.met.K.Ord.total (λ v. g.F.FnOnce.post c.args.make tt v) c.args.pairs.now.items c.args.key c.make.result
-    c.as_slice.ensures c.in-Err.ensures c.requires.ascends c.make.ensures c.make_room.ensures.items
-    c.in_ok-insert_at-in-Err.ensures.ok).entry
-
-pub returns-in_ok-insert_at-in-Err-clause-others : goal.returns-in_ok-insert_at-in-Err-clause-others
-returns-in_ok-insert_at-in-Err-clause-others g c =
-    (put-new g.met.K.Ord.total (λ v. g.F.FnOnce.post c.args.make tt v) c.args.pairs.now.items c.args.key c.make.result
-    c.as_slice.ensures c.in-Err.ensures c.requires.ascends c.make.ensures c.make_room.ensures.items
-    c.in_ok-insert_at-in-Err.ensures.ok).others
+pub returns-in_ok-insert_at-in-Err : goal.returns-in_ok-insert_at-in-Err
+returns-in_ok-insert_at-in-Err g c =
+    let put = put-new g.met.K.Ord.total (λ v. g.F.FnOnce.post c.args.make tt v) c.args.pairs.now.items c.args.key
+    c.make.result c.as_slice.ensures c.in-Err.ensures c.requires.ascends c.make.ensures c.make_room.ensures.items
+    c.in_ok-insert_at-in-Err.ensures.ok in
+    record {
+      found = put.found;
+      ascends = put.ascends;
+      entry = put.entry;
+      others = put.others;
+      known = search rules;
+      room = search rules;
+      err = search rules;
+    }
 
 pub returns-in_err-make_room-in-Err-clause-known : goal.returns-in_err-make_room-in-Err-clause-known
 returns-in_err-make_room-in-Err-clause-known g c =
