@@ -1,17 +1,16 @@
 -- A merge that is not refused, over a state that builds, has built what the events of the script give.
 use Rattle.std.proofs.Common.{◌≡◌, ℕ, IsOk, Bool, true, false, List, [], ◌∷◌, ◌++◌, map, length, take, Result, Ok}
-use Rattle.std.proofs.Common.{◌⊎◌, refl, sym, ap, ◌∙◌, append_assoc, arith}
+use Rattle.std.proofs.Common.{◌⊎◌, refl, append_assoc, arith}
 use Rattle.std.specs.declared.alloc.AllocError.{AllocError}
 use Rattle.std.specs.declared.cmp.Ordering.{Ordering}
 use Rattle.std.proofs.lemmas.List.{append-nil}
 use Rattle.std.proofs.Math.Seq.{take-append_seam}
 use Rattle.std.specs.List.{AllZip}
-use mathlib.Core.Bool.{true≢false}
 use Rattle.vc_merge.specs.Script.{Event, left_alone, right_alone}
 use Rattle.vc_merge.specs.Chain.{Answer, Allows, Run, of_left, of_right, of_both, run_events, events, IsAtFront}
 use Rattle.vc_merge.specs.Chain.{IsAllowed, Step, Steps, Finishes, Stops, IsMerged}
 use Rattle.vc_merge.specs.Both.{Both}
-use Rattle.vc_merge.specs.Building.{Built, Advances, Skips}
+use Rattle.vc_merge.specs.Building.{Advances, Skips}
 use Rattle.vc_merge.specs.Gathering.{Gathers, GivesIf, Appends, IsBuilt, Adds, IsBuilding}
 
 -- ---- what is gathered
@@ -22,17 +21,13 @@ module _ {X Z : Type 0} (gives : X → List Z → Type 0) where
       → Gathers gives (xs ++ ys) (zs ++ ws)
   gathers-append [] ys zs ws p q = grind arith
   gathers-append (x ∷ xs) ys zs ws p q =
-      (p.0, p.1 ++ ws, p.2, gathers-append xs ys p.1 ws p.3 q, ap (λ l. l ++ ws) p.4 ∙ append_assoc p.0 p.1 ws)
+      (p.0, p.1 ++ ws, p.2, gathers-append xs ys p.1 ws p.3 q, grind (arith, append_assoc p.0 p.1 ws))
 
   -- what elements give under another name
   pub gathers-map : {W : Type 0} (f : W → X) (ws : List W) (zs : List Z) → Gathers (λ w. gives (f w)) ws zs
       → Gathers gives (map f ws) zs
   gathers-map f [] zs p = p
   gathers-map f (w ∷ ws) zs p = grind (arith, gathers-map f ws p.1 p.3)
-
-  appends-map : {W : Type 0} (f : W → X) (ws : List W) (old new : List Z) → Appends (λ w. gives (f w)) ws old new
-      → Appends gives (map f ws) old new
-  appends-map f ws old new p = grind (arith, gathers-map)
 
   pub appends-nothing : (old new : List Z) → new ≡ old → Appends gives [] old new
   appends-nothing old new e = grind (arith, append-nil)
@@ -42,7 +37,7 @@ module _ {X Z : Type 0} (gives : X → List Z → Type 0) where
   appends-append xs ys old mid new p q = record {
     added = p.added ++ q.added;
     gathered = gathers-append xs ys p.added q.added p.gathered q.gathered;
-    items = q.items ∙ ap (λ l. l ++ q.added) p.items ∙ append_assoc old p.added q.added;
+    items = grind (arith, append_assoc old p.added q.added);
   }
 
   -- elements of which none gives anything
@@ -58,22 +53,16 @@ module _ {X Z : Type 0} (gives : X → List Z → Type 0) where
 module _ {X Z : Type 0} (from : X → Z → Type 0) where
   -- elements of which each gives one
   gathers-each : (xs : List X) (zs : List Z) → AllZip from xs zs → Gathers (λ x. GivesIf true (from x)) xs zs
-  gathers-each [] [] p = refl
-  gathers-each [] (z ∷ zs) p = absurd p
-  gathers-each (x ∷ xs) [] p = absurd p
   gathers-each (x ∷ xs) (z ∷ zs) p = (z ∷ [], zs, (z, p.0, refl), gathers-each xs zs p.1, refl)
+  gathers-each xs zs p = grind arith
 
 module _ {M X N : Type 0} (built : M → List X) (name : M → N) where
-  appends-built : (from : X → X → Type 0) (taken : Bool) (xs old new : List X) (n : ℕ)
-      → Built from xs n taken old new → Appends (λ x. GivesIf taken (from x)) (take n xs) old new
-  appends-built from true xs old new n p = grind (arith, gathers-each)
-  appends-built from false xs old new n p = grind (arith, appends-none)
-
   -- elements that were taken are added, and those that were skipped are not
   pub advances-adds : (from : X → X → Type 0) (side : M → List X) (s t : M) (n : ℕ) (taken : Bool) (answer : Answer)
       → Advances built name from side s n taken answer t
       → Adds built name (λ x. GivesIf taken (from x)) (take n (side s)) s answer t
-  advances-adds from side s t n taken answer p = grind (arith, appends-built)
+  advances-adds from side s t n true answer p = grind (arith, gathers-each)
+  advances-adds from side s t n false answer p = grind (arith, appends-none)
 
   pub skips-adds : {Y : Type 0} (gives : Y → X → Type 0) (ys : List Y) (s t : M) (answer : Answer) → Skips built name s answer t
       → Adds built name (λ y. GivesIf false (gives y)) ys s answer t
@@ -119,41 +108,32 @@ module _ {M A B Z N : Type 0} (built : M → List Z) (name : M → N) (op : Allo
   Grows : List (Event A B) → M → M → Type 0
   Grows es s t = (name t ≡ name s) × Appends gives es (built s) (built t)
 
-  appends-front : {X : Type 0} (give : X → List Z → Type 0) (all xs rest : List X) (old new : List Z) → all
-      ≡ xs ++ rest → Appends give (take (length xs) all) old new → Appends give xs old new
-  appends-front give all xs rest old new e p = grind (arith, take-append_seam)
+  -- a run at the front of a list
+  appends-front : {X : Type 0} (f : X → Event A B) (all xs rest : List X) (old new : List Z) → all ≡ xs ++ rest
+      → Appends (λ x. gives (f x)) (take (length xs) all) old new → Appends gives (map f xs) old new
+  appends-front f all xs rest old new e p = grind (arith, take-append_seam, gathers-map)
 
   step-grows : (s t : M) (run : Run A B) → Step op s run t → Grows (run_events run) s t
   unfolding Grows
   step-grows s t (of_left xs) p =
-      let d = is.from_a s t (length xs) (Ok true) p.allowed in (
-        d.1,
-        appends-map gives (λ x. left_alone x) xs (built s) (built t)
-            (appends-front (λ x. gives (left_alone x)) (op.left s) xs (op.left t) (built s) (built t) p.front.1 d.2),
-      )
+      let given = is.from_a s t (length xs) (Ok true) p.allowed in
+      grind (arith, given, appends-front (λ x. left_alone x) (op.left s) xs (op.left t))
   step-grows s t (of_right ys) p =
-      let d = is.from_b s t (length ys) (Ok true) p.allowed in (
-        d.1,
-        appends-map gives (λ y. right_alone y) ys (built s) (built t)
-            (appends-front (λ y. gives (right_alone y)) (op.right s) ys (op.right t) (built s) (built t) p.front.2 d.2),
-      )
-  step-grows s t (of_both x y) p = let d =
-      is.collision s t (Ok true) p.allowed x y (op.left t) (op.right t) p.front.0 p.front.1 in (d.1, d.2)
+      let given = is.from_b s t (length ys) (Ok true) p.allowed in
+      grind (arith, given, appends-front (λ y. right_alone y) (op.right s) ys (op.right t))
+  step-grows s t (of_both x y) p = grind (arith, is.collision s t (Ok true) p.allowed x y (op.left t) (op.right t))
 
   steps-grow : (s t : M) (runs : List (Run A B)) → Steps op s runs t → Grows (events runs) s t
   unfolding Grows
   steps-grow s t [] e = grind (arith, appends-nothing gives (built s) (built t))
   steps-grow s t (run ∷ runs) e =
-      let p = step-grows s e.0 run e.1 in
-      let q = steps-grow e.0 t runs e.2 in
-      (q.0 ∙ p.0, appends-append gives (run_events run) (events runs) (built s) (built e.0) (built t) p.1 q.1)
+      grind (arith, step-grows s e.0 run e.1, steps-grow e.0 t runs e.2, appends-append gives (run_events run) (events runs))
 
   -- no event stops the merge
   goes-on : (s t : M) (run : Run A B) (xs : List A) (ys : List B) → IsAtFront (op.left s) (op.right s) run xs ys
       → IsAllowed op s run (Ok false) t → ⊥
-  goes-on s t (of_left ls) xs ys f h = grind arith
-  goes-on s t (of_right rs) xs ys f h = grind arith
-  goes-on s t (of_both x y) xs ys f h = true≢false (sym (is.collision s t (Ok false) h x y xs ys f.0 f.1).0)
+  goes-on s t (of_both x y) xs ys f h = grind (arith, is.collision s t (Ok false) h x y xs ys)
+  goes-on s t run xs ys f h = grind arith
 
   -- a merge that is not refused has built what the events of the script give
   pub merged-builds : (order : A ⊎ B → A ⊎ B → Ordering) (s t : M) → Finishes op order s t ⊎ Stops op order s (Ok false) t

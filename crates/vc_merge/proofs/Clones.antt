@@ -19,14 +19,12 @@ module _ {X : Type 0} (cmp : X → X → Ordering) (total : IsTotalOrder cmp) (i
   clones-above : (x y : X) (xs ys : List X) → cmp x y ≡ Equal → AllZip is_clone xs ys
       → AllByRecursion (λ z. cmp x z ≡ Less) xs → AllByRecursion (λ z. cmp y z ≡ Less) ys
   clones-above x y [] [] e z p = tt
-  clones-above x y [] (w ∷ ys) e z p = absurd z
-  clones-above x y (v ∷ xs) [] e z p = absurd z
   clones-above x y (v ∷ xs) (w ∷ ys) e z p = grind (arith, clones-above x y xs ys e z.1 p.1)
+  clones-above x y xs ys e z p = absurd z
 
   -- the clones of an ascending list ascend
   pub clones-ascend : (xs ys : List X) → AllZip is_clone xs ys → Ascends cmp xs → Ascends cmp ys
   unfolding IsStrictlySortedBy
   clones-ascend [] [] z p = tt
-  clones-ascend [] (y ∷ ys) z p = absurd z
-  clones-ascend (x ∷ xs) [] z p = absurd z
   clones-ascend (x ∷ xs) (y ∷ ys) z p = grind (arith, clones-ascend xs ys z.1 p.1, clones-above)
+  clones-ascend xs ys z p = absurd z

@@ -2,10 +2,9 @@
 --     digits-enough, digits-least        n is below 2 ^ digits n, and below no lesser power
 --     digits-monotone, digits-half        of a greater number, and of half a number
 --     digits-from_zeros        as many as the bits below the leading zeros
-use Rattle.std.proofs.Common.{◌≡◌, ℕ, zero, suc, ◌+◌, ◌-◌, ◌*◌, ◌/◌, ◌^◌, ◌<◌, ◌≤◌, ⊎_elim, arith}
+use Rattle.std.proofs.Common.{◌≡◌, ℕ, zero, suc, ◌+◌, ◌-◌, ◌/◌, ◌^◌, ◌<◌, ◌≤◌, arith}
 use Rattle.std.proofs.Math.Nat.{pow-suc}
 use Rattle.std.proofs.Math.Pow.{pow_mono}
-use Rattle.std.proofs.lemmas.Bool.{cases_lt}
 use Rattle.std.proofs.lemmas.Nat.{leading_length, pow_pos}
 use Rattle.std.specs.Int.Count.{count_leading_zeros}
 use Rattle.vc_merge.specs.Count.{digits, digits_from}
@@ -46,11 +45,4 @@ digits-half n p = grind (arith, pow-suc, digits-enough, half-below, digits-least
 pub digits-from_zeros : (bits n : ℕ) → n < 2 ^ bits → bits - count_leading_zeros bits n ≡ digits n
 digits-from_zeros bits n h =
     let m = leading_length bits n h in
-    let sum : count_leading_zeros bits n + m.0 ≡ bits = m.1 in
-    let u = digits-least n m.0 m.2 in
-    let l : m.0 ≤ digits n = top m.0 (digits n) (digits-enough n) m.3 in omega arith
-  where
-    top : (k e : ℕ) → n < 2 ^ e → 2 ^ k ≤ 2 * n + 1 → k ≤ e
-    top k e l u =
-        let p : 2 ^ suc e ≡ 2 ^ e * 2 = pow-suc 2 e in
-        ⊎_elim (λ h. let q : 2 ^ suc e ≤ 2 ^ k = pow_mono h in absurd (omega arith)) (λ h. h) (cases_lt e k)
+    grind (arith, m.1, m.2, m.3, digits-least n m.0, digits-enough n, pow_mono {i = suc (digits n)} {j = m.0}, pow-suc)

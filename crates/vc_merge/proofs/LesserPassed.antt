@@ -1,5 +1,5 @@
 -- The lesser one of two first elements is taken in the places of one list.
-use Rattle.std.proofs.Common.{◌≡◌, ◌+◌, ◌-◌, ◌<◌, ◌||◌, Bool, true, false, take, drop, length, refl, sym, ap, ◌∙◌, arith, drop-drop, Ok}
+use Rattle.std.proofs.Common.{◌≡◌, ◌+◌, ◌<◌, ◌≤◌, ◌||◌, Bool, true, length, refl, arith, drop-drop, Ok}
 use Rattle.std.specs.Int.{from_bool}
 use Rattle.std.specs.Ordering.{is_le, is_ge, is_ne}
 use Rattle.std.specs.declared.cmp.Ordering.{Ordering}
@@ -11,7 +11,7 @@ use Rattle.vc_merge.specs.Chain.{Answer}
 use Rattle.vc_merge.specs.PartsViews.{list_name, built_items, left_items, right_items, hole_places, PassesLesser}
 use Rattle.vc_merge.specs.Shifts.{Trades, lesser_place}
 use Rattle.vc_merge.proofs.Extending.{extends-same}
-use Rattle.vc_merge.proofs.Shifting.{part-at_most, passed-built, passed-front, passed-left, passed-right, trade-left}
+use Rattle.vc_merge.proofs.Shifting.{part-at_most, passed, trade-left}
 use Rattle.std.specs.Prelude.{IsOk}
 
 module _ {X : Type 0} where
@@ -21,45 +21,17 @@ module _ {X : Type 0} where
     pub passes-lesser : (o : Ordering) (both : Bool) → t.built ≡ s.built + from_bool (is_ne o || both)
         → t.start ≡ s.start + from_bool (is_le o) → t.next ≡ s.next + from_bool (is_ge o)
         → Trades s.list.now s.built (lesser_place o s.start s.next) 1 t.list.now → PassesLesser o both s t
-    passes-lesser Less both b l r h =
-        let xs = s.list.now in let ys = t.list.now in let few = part-at_most xs s.start s.end 1 some in
-        record {
-          name = name;
-          built = ap (λ n. take n ys) b ∙ passed-built xs ys s.built s.start s.end s.next (omega (arith, hole)) s.left s.gap few s.right h;
-          left = (λ i. take (end i - l i) (drop (l i) ys))
-              ∙ passed-left xs ys s.built s.start s.end s.next (omega (arith, hole)) s.left s.gap few s.right h;
-          right = ap (λ n. drop n ys) (omega (arith, r))
-              ∙ passed-right xs ys s.built s.start s.end s.next (omega (arith, hole)) s.left s.gap few s.right h;
-        }
     passes-lesser Greater both b l r h =
-        let xs = s.list.now in let ys = t.list.now in let same : t.start ≡ s.start = omega (arith, l) in
-        record {
-          name = name;
-          built = ap (λ n. take n ys) b ∙ h.front;
-          left = (λ i. take (end i - same i) (drop (same i) ys))
-              ∙ trade-left xs ys s.built s.start s.end s.next (omega (arith, hole)) s.left s.gap 1 (omega (arith, hole)) h;
-          right = ap (λ n. drop n ys) r ∙ h.rest ∙ sym (drop-drop 1 s.next xs);
-        }
-    passes-lesser Equal true b l r h =
-        let xs = s.list.now in let ys = t.list.now in let few = part-at_most xs s.start s.end 1 some in
-        record {
-          name = name;
-          built = ap (λ n. take n ys) b ∙ passed-built xs ys s.built s.start s.end s.next (omega (arith, hole)) s.left s.gap few s.right h;
-          left = (λ i. take (end i - l i) (drop (l i) ys))
-              ∙ passed-left xs ys s.built s.start s.end s.next (omega (arith, hole)) s.left s.gap few s.right h;
-          right = ap (λ n. drop n ys) r ∙ sym (drop-drop 1 s.next ys)
-              ∙ ap (drop 1) (passed-right xs ys s.built s.start s.end s.next (omega (arith, hole)) s.left s.gap few s.right h);
-        }
-    passes-lesser Equal false b l r h =
-        let xs = s.list.now in let ys = t.list.now in let few = part-at_most xs s.start s.end 1 some in
-        record {
-          name = name;
-          built = ap (λ n. take n ys) (omega (arith, b)) ∙ passed-front xs ys s.built s.start s.end s.next (omega (arith, hole)) s.left s.gap few s.right h;
-          left = (λ i. take (end i - l i) (drop (l i) ys))
-              ∙ passed-left xs ys s.built s.start s.end s.next (omega (arith, hole)) s.left s.gap few s.right h;
-          right = ap (λ n. drop n ys) r ∙ sym (drop-drop 1 s.next ys)
-              ∙ ap (drop 1) (passed-right xs ys s.built s.start s.end s.next (omega (arith, hole)) s.left s.gap few s.right h);
-        }
+        let apart : s.built + 1 ≤ s.start = omega (arith, hole) in
+        let kept = trade-left s.list.now t.list.now s.built s.start s.end s.next s.hole s.left s.gap 1 apart h in
+        grind (arith, kept, drop-drop 1 s.next s.list.now)
+    passes-lesser Less both b l r h =
+        let few = part-at_most s.list.now s.start s.end 1 some in
+        grind (arith, passed s.list.now t.list.now s.built s.start s.end s.next (omega (arith, hole)) s.left s.gap few s.right h)
+    passes-lesser Equal both b l r h =
+        let few = part-at_most s.list.now s.start s.end 1 some in
+        let kept = passed s.list.now t.list.now s.built s.start s.end s.next (omega (arith, hole)) s.left s.gap few s.right h in
+        grind (arith, kept, drop-drop 1 s.next s.list.now, drop-drop 1 s.next t.list.now)
 
   -- ---- what the call of the state says
 
@@ -67,20 +39,10 @@ module _ {X : Type 0} where
   Takes heads both s answer t = TakesOne
       (λ s n take answer t. IsOk answer × Advances built_items list_name (λ x y. x ≡ y) left_items s n take answer t)
       (λ s n answer t. IsOk answer × Skips built_items list_name s answer t)
-      (λ s n answer t. IsOk answer × Advances built_items list_name (λ x y. x ≡ y) right_items s n true answer t) heads both s answer t
+      (λ s n answer t. IsOk answer × Advances built_items list_name (λ x y. x ≡ y) right_items s n true answer t)
+      heads both s answer t
 
   pub lesser-given : (s t : PartsState X) (o : Ordering) (both : Bool) → PassesLesser o both s t → Takes o both s (Ok true) t
-  lesser-given s t Less both h = (refl, (refl, h.name, extends-same (take 1 (left_items s)) _ _ h.built))
-  lesser-given s t Greater both h = (refl, (refl, h.name, extends-same (take 1 (right_items s)) _ _ h.built))
-  lesser-given s t Equal true h = record {
-    between = t;
-    answered = Ok true;
-    first = (refl, (refl, h.name, extends-same (take 1 (left_items s)) _ _ h.built));
-    second = (refl, (refl, refl, refl));
-  }
-  lesser-given s t Equal false h = record {
-    between = t;
-    answered = Ok true;
-    first = (refl, (refl, h.name, h.built));
-    second = (refl, (refl, refl, refl));
-  }
+  lesser-given s t Equal both h =
+      record { between = t; answered = Ok true; first = grind (arith, extends-same); second = (refl, (refl, refl, refl)) }
+  lesser-given s t heads both h = grind (arith, extends-same)

@@ -1,6 +1,6 @@
 -- A state that takes the lesser one of two first elements without a branch.
 use Rattle.std.proofs.Common.{◌≡◌, ℕ, ◌+◌, ◌<◌, Bool, true, false, List, [], ◌∷◌, ◌++◌, take, drop, length, get_or, Ok, Err}
-use Rattle.std.proofs.Common.{refl, sym, ap, subst, ◌∙◌, arith, drop-drop, length-drop, length-append, ◌-◌, ◌≤◌}
+use Rattle.std.proofs.Common.{refl, arith, drop-drop, length-drop, length-append, ◌-◌, ◌≤◌}
 use Rattle.std.specs.Int.{from_bool}
 use Rattle.std.specs.Ordering.{is_le, is_ge, is_eq}
 use Rattle.std.specs.declared.cmp.Ordering.{Ordering}
@@ -8,7 +8,6 @@ use Rattle.std.specs.declared.cmp.Ordering.TheVariants.{Less, Equal, Greater}
 use Rattle.std.specs.declared.alloc.AllocError.{AllocError}
 use Rattle.vc_merge.specs.declared.choosing.ChoosingState.{ChoosingState}
 use Rattle.vc_merge.specs.Building.{Extends, Advances, Skips}
-use mathlib.Core.Bool.{true≢false}
 use Rattle.vc_merge.specs.Both.{TakesOne, TakesLeftOne, taken_at}
 use Rattle.vc_merge.specs.Chain.{Answer}
 use Rattle.vc_merge.specs.ChoosingViews.{built_items, left_items, right_items, list_name}
@@ -19,12 +18,11 @@ module _ {X : Type 0} (from : X → X → Type 0) where
   -- one element is taken
   pub one-extends : (xs old new : List X) (i : ℕ) (x c : X) → i < length xs → x ≡ get_or xs i x → from x c → new ≡ old ++ c ∷ []
       → Extends from (take 1 (drop i xs)) old new
-  one-extends xs old new i x c h e f p =
-      subst (λ l. Extends from (take 1 l) old new) (sym (drop-at xs i x h e)) (record { added = c ∷ []; come = (f, tt); items = p })
+  one-extends xs old new i x c h e f p = record { added = c ∷ []; come = grind (arith, drop-at xs i x); items = p }
 
 -- what is left behind some elements more
 pub ends-more : {X : Type 0} (xs ys : List X) (i j m : ℕ) → ys ≡ xs → j ≡ i + m → drop j ys ≡ drop m (drop i xs)
-ends-more xs ys i j m e f = rw e (rw f (sym (drop-drop m i xs)))
+ends-more xs ys i j m e f = grind (arith, drop-drop)
 
 module _ {X A : Type 0} {n : ℕ} (from : X → X → Type 0) where
   abbrev Takes : Ordering → Bool → ChoosingState X n A → Answer → ChoosingState X n A → Type 0
@@ -35,19 +33,12 @@ module _ {X A : Type 0} {n : ℕ} (from : X → X → Type 0) where
   -- the lesser element was taken
   pub one-taken : (s t : ChoosingState X n A) (heads : Ordering) (both : Bool) (x y z c : X) → list_name t ≡ list_name s
       → s.left < length s.a.now → s.right < length s.b.now → x ≡ get_or s.a.now s.left x → y ≡ get_or s.b.now s.right y
-      → (heads ≡ Less → z ≡ x) → (heads ≡ Equal → z ≡ x) → (heads ≡ Greater → z ≡ y) → from z c
+      → (heads ≡ Less → z ≡ get_or s.a.now s.left x) → (heads ≡ Equal → z ≡ get_or s.a.now s.left x)
+      → (heads ≡ Greater → z ≡ get_or s.b.now s.right y) → from z c
       → built_items t ≡ built_items s ++ c ∷ [] → (heads ≡ Equal → both ≡ true) → Takes heads both s (Ok true) t
-  one-taken s t Less both x y z c k h i e f p q r w b o =
-      (refl, k, one-extends from s.a.now _ _ s.left x c h e (subst (λ v. from v c) (p refl) w) b)
-  one-taken s t Greater both x y z c k h i e f p q r w b o =
-      (refl, k, one-extends from s.b.now _ _ s.right y c i f (subst (λ v. from v c) (r refl) w) b)
-  one-taken s t Equal true x y z c k h i e f p q r w b o = record {
-    between = t;
-    answered = Ok true;
-    first = (refl, k, one-extends from s.a.now _ _ s.left x c h e (subst (λ v. from v c) (q refl) w) b);
-    second = (refl, refl, refl);
-  }
-  one-taken s t Equal false x y z c k h i e f p q r w b o = let none = o refl in grind arith
+  one-taken s t Equal both x y z c k h i e f p q r w b o =
+      record { between = t; answered = Ok true; first = grind (arith, one-extends); second = grind arith }
+  one-taken s t heads both x y z c k h i e f p q r w b o = grind (arith, one-extends)
 
   abbrev TakesOfLeft : Ordering → Bool → Bool → ChoosingState X n A → Answer → ChoosingState X n A → Type 0
   TakesOfLeft heads left both s answer t = TakesLeftOne (Advances built_items list_name from left_items)
@@ -57,71 +48,49 @@ module _ {X A : Type 0} {n : ℕ} (from : X → X → Type 0) where
   pub left-taken : (s t : ChoosingState X n A) (heads : Ordering) (left both : Bool) (x c : X) → list_name t ≡ list_name s
       → s.left < length s.a.now → x ≡ get_or s.a.now s.left x → from x c → built_items t ≡ built_items s ++ c ∷ []
       → taken_at heads left false both ≡ true → TakesOfLeft heads left both s (Ok true) t
-  left-taken s t Less true both x c k h e w b o = (refl, k, one-extends from s.a.now _ _ s.left x c h e w b)
-  left-taken s t Less false both x c k h e w b o = absurd (true≢false (sym o))
-  left-taken s t Greater left both x c k h e w b o = absurd (true≢false (sym o))
-  left-taken s t Equal left true x c k h e w b o = record {
-    between = t;
-    answered = Ok true;
-    first = (refl, k, one-extends from s.a.now _ _ s.left x c h e w b);
-    second = (refl, refl, refl);
-  }
-  left-taken s t Equal left false x c k h e w b o = absurd (true≢false (sym o))
+  left-taken s t Equal left both x c k h e w b o =
+      record { between = t; answered = Ok true; first = grind (arith, one-extends); second = grind arith }
+  left-taken s t heads left both x c k h e w b o = grind (arith, one-extends)
 
   -- none was taken
   pub left-passed : (s t : ChoosingState X n A) (heads : Ordering) (left both : Bool) → list_name t ≡ list_name s
       → built_items t ≡ built_items s → taken_at heads left false both ≡ false → TakesOfLeft heads left both s (Ok true) t
-  left-passed s t Less true both k b o = absurd (true≢false o)
-  left-passed s t Less false both k b o = (refl, k, b)
-  left-passed s t Greater left both k b o = (refl, k, b)
-  left-passed s t Equal left true k b o = absurd (true≢false o)
-  left-passed s t Equal left false k b o = record { between = t; answered = Ok true; first = (refl, k, b); second = (refl, refl, refl) }
-
-  pub left-refused : (s t : ChoosingState X n A) (heads : Ordering) (left both : Bool) (x : AllocError) (answer : Answer)
-      → answer ≡ Err x → TakesOfLeft heads left both s answer t
-  left-refused s t Less left both x answer e = rw e tt
-  left-refused s t Greater left both x answer e = rw e tt
-  left-refused s t Equal left both x answer e = rw e (record { between = t; answered = Err x; first = tt; second = (refl, refl) })
-
-  -- both were skipped
-  pub both-skipped : (s t : ChoosingState X n A) (heads : Ordering) (both : Bool) → heads ≡ Equal → both ≡ false
-      → list_name t ≡ list_name s → built_items t ≡ built_items s → Takes heads both s (Ok true) t
-  both-skipped s t heads both e f k b = rw e (rw f (record {
-    between = t;
-    answered = Ok true;
-    first = (refl, k, b);
-    second = (refl, refl, refl);
-  }))
+  left-passed s t Equal left both k b o = record { between = t; answered = Ok true; first = grind arith; second = grind arith }
+  left-passed s t heads left both k b o = grind arith
 
   -- memory or a clone was refused
+  pub left-refused : (s t : ChoosingState X n A) (heads : Ordering) (left both : Bool) (x : AllocError) (answer : Answer)
+      → answer ≡ Err x → TakesOfLeft heads left both s answer t
+  left-refused s t Equal left both x answer e = record { between = t; answered = Err x; first = tt; second = (e, refl) }
+  left-refused s t heads left both x answer e = grind arith
+
   pub one-refused : (s t : ChoosingState X n A) (heads : Ordering) (both : Bool) (x : AllocError) (answer : Answer)
       → answer ≡ Err x → Takes heads both s answer t
-  one-refused s t Less both x answer e = rw e tt
-  one-refused s t Greater both x answer e = rw e tt
-  one-refused s t Equal both x answer e = rw e (record { between = t; answered = Err x; first = tt; second = (refl, refl) })
+  one-refused s t Equal both x answer e = record { between = t; answered = Err x; first = tt; second = (e, refl) }
+  one-refused s t heads both x answer e = grind arith
+
+  -- both were skipped
+  pub both-skipped : (s t : ChoosingState X n A) (heads : Ordering) (both : Bool) {b : Bool} → b ≡ is_eq heads → b ≡ true
+      → both ≡ false → list_name t ≡ list_name s → built_items t ≡ built_items s → Takes heads both s (Ok true) t
+  both-skipped s t Equal both e f h k b = record { between = t; answered = Ok true; first = grind arith; second = grind arith }
+  both-skipped s t heads both e f h k b = grind arith
 
   -- what is left
-  pub one-passed : (ready : ChoosingState X n A → Type 0) (s t : ChoosingState X n A) (heads : Ordering) → t.a.now ≡ s.a.now
-      → t.b.now ≡ s.b.now → t.left ≡ s.left + from_bool (is_le heads) → t.right ≡ s.right + from_bool (is_ge heads) → ready t
+  pub one-passed : (ready : ChoosingState X n A → Type 0) (s t : ChoosingState X n A) (heads : Ordering) {le ge : Bool}
+      → le ≡ is_le heads → ge ≡ is_ge heads
+      → t.a.now ≡ s.a.now → t.b.now ≡ s.b.now → t.left ≡ s.left + from_bool le → t.right ≡ s.right + from_bool ge → ready t
       → TakesLesser left_items right_items ready heads s (Ok true) t
-  one-passed ready s t Less a b l r k = λ _. (ends-more s.a.now t.a.now s.left t.left 1 a l, ends-more s.b.now t.b.now s.right t.right 0 b r, k)
-  one-passed ready s t Greater a b l r k = λ _. (ends-more s.a.now t.a.now s.left t.left 0 a l, ends-more s.b.now t.b.now s.right t.right 1 b r, k)
-  one-passed ready s t Equal a b l r k = λ _. (ends-more s.a.now t.a.now s.left t.left 1 a l, ends-more s.b.now t.b.now s.right t.right 1 b r, k)
+  one-passed ready s t heads le ge a b l r k =
+      let x = ends-more s.a.now t.a.now s.left t.left in let y = ends-more s.b.now t.b.now s.right t.right in
+      grind (arith, x 0 a, x 1 a, y 0 b, y 1 b)
 
 -- ---- what the tests of the call say
-
-pub eq-is : (o : Ordering) {b : Bool} → b ≡ is_eq o → b ≡ true → o ≡ Equal
-eq-is Equal e f = refl
-eq-is Less e f = grind arith
-eq-is Greater e f = grind arith
 
 pub eq-not : (o : Ordering) {b both : Bool} → b ≡ is_eq o → b ≡ false → o ≡ Equal → both ≡ true
 eq-not o e f k = grind arith
 
-pub eq-passed : (o : Ordering) (i j : ℕ) → o ≡ Equal → (i + 1 ≡ i + from_bool (is_le o)) × (j + 1 ≡ j + from_bool (is_ge o))
-eq-passed Equal i j e = (refl, refl)
-eq-passed Less i j e = grind arith
-eq-passed Greater i j e = grind arith
+pub eq-both : (o : Ordering) {b : Bool} → b ≡ is_eq o → b ≡ true → (true ≡ is_le o) × (true ≡ is_ge o)
+eq-both o e f = grind arith
 
 pub within-left : {X : Type 0} (xs : List X) (i : ℕ) → 0 < length (drop i xs) → i < length xs
 within-left xs i h = omega (arith, h, length-drop i xs)

@@ -1,5 +1,5 @@
 -- Members of lists, and the elements that are found at them.
-use Rattle.std.proofs.Common.{◌≡◌, true, false, List, [], ◌∷◌, ◌++◌, Some, None, is_some}
+use Rattle.std.proofs.Common.{◌≡◌, true, List, [], ◌∷◌, ◌++◌, None, is_some}
 use Rattle.std.proofs.Common.{refl, arith}
 use Rattle.std.specs.List.{AllByRecursion}
 use Rattle.std.specs.Option.{option_or}
@@ -17,14 +17,6 @@ module _ {X : Type 0} (cmp : X → X → Ordering) where
   pub member-is_some : (xs : List X) (x : X) → member cmp xs x ≡ is_some (element_at cmp xs x)
   member-is_some [] x = refl
   member-is_some (y ∷ ys) x = grind (arith, member-is_some ys x)
-
-  -- the first element, where it is equal and where it is not
-  pub element_at-first : (y : X) (ys : List X) (x : X) → eq_by_cmp cmp y x ≡ true → element_at cmp (y ∷ ys) x ≡ Some y
-  element_at-first y ys x e = grind arith
-
-  pub element_at-later : (y : X) (ys : List X) (x : X) → eq_by_cmp cmp y x ≡ false → element_at cmp (y ∷ ys) x
-      ≡ element_at cmp ys x
-  element_at-later y ys x e = grind arith
 
   -- the element of two lists, one after the other
   pub element_at-append : (xs ys : List X) (x : X) → element_at cmp (xs ++ ys) x

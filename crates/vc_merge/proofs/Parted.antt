@@ -1,15 +1,13 @@
 -- A list with a gap after its elements, and others after the gap.
-use Rattle.std.proofs.Common.{◌≡◌, ℕ, ◌≤◌, Result, is_err, Ok, Err, OnOk, Bool, false, List, ◌++◌, length, take}
-use Rattle.std.proofs.Common.{drop, sym, ◌∙◌, refl, drop_at, arith}
-use mathlib.Core.Bool.{true≢false}
+use Rattle.std.proofs.Common.{◌≡◌, ℕ, ◌≤◌, Result, is_err, OnOk, Bool, false, List, ◌++◌, length, take}
+use Rattle.std.proofs.Common.{drop, refl, drop_at, arith}
 use Rattle.std.proofs.lemmas.List.{take-append-le}
 use Rattle.smallvec.specs.SmallVec.{SmallVec, with_items}
 use Rattle.smallvec.proofs.SmallVecLemmas.{items-with_items}
 
 pub not-refused : {A E : Type 0} (result : Result A E) (P : Type 0) (refused : Bool) → refused ≡ is_err result
     → refused ≡ false → OnOk result P → P
-not-refused (Ok a) P refused e f h = h
-not-refused (Err e) P refused i f h = absurd (true≢false (sym i ∙ f))
+not-refused result P refused e f h = grind arith
 
 -- what follows where a call was not refused
 pub on-ok : {A E : Type 0} (result : Result A E) (P Q : Type 0) → (P → Q) → OnOk result P → OnOk result Q
@@ -24,10 +22,8 @@ pub record IsParted {X : Type 0} (old added all : List X) (end next : ℕ) : Typ
 pub is-parted : {X : Type 0} {old : List X} (gapped : List X) {added pushed all : List X} {end next : ℕ} → end ≡ length old → next
     ≡ length gapped → take (length old) gapped ≡ old → length old ≤ length gapped
     → pushed ≡ gapped ++ added → all ≡ pushed → IsParted old added all end next
-is-parted {old} gapped {added} {pushed} {all} {end} {next} ends nexts front gap items same = record {
-  left = (λ i. take (ends i) ((same ∙ items) i)) ∙ take-append-le (length old) gapped added gap ∙ front;
-  right = (λ i. drop (nexts i) ((same ∙ items) i)) ∙ drop_at gapped added (length gapped) refl;
-}
+is-parted {old} gapped {added} ends nexts front gap items same =
+    grind (arith, take-append-le (length old) gapped added, drop_at gapped added (length gapped) refl)
 
 -- a list that was written through its slice, and cut off
 pub cut-off : {X : Type 0} (v : SmallVec X) (lent written new : List X) (kept : ℕ) → lent ≡ v.items → length written ≡ length lent

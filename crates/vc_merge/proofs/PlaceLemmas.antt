@@ -1,226 +1,149 @@
 -- A search in an ordered list: what one comparison tells of the others, and how a search ends.
---     less-before, less-upto, greater-from, greater-behind        what is before and after an element
---     narrowed-whole, narrowed-up, narrowed-past, narrowed-down        the part that is searched, at first and after a comparison
---     ordered-rest, rest-part, rest-rest        the rest that is searched on
+--     less-before, not-later, greater-behind, greater-from        what is before and after an element
+--     narrowed-whole, narrowed-past, narrowed-down        the part that is searched, at first and after a comparison
+--     rest-part, ordered-rest, rest-rest        the rest that is searched on
 --     half-rest, quarter-rest        after one comparison, and after three
 --     searched-half        after one comparison that may find it
 --     place-met, place-behind, place-searched, place-equal, place-unequal        the place
---     ordered-ascends, ascends-map        ascending lists are ordered round whatever is sought
-use Rattle.std.proofs.Common.{◌≡◌, ℕ, zero, suc, ◌+◌, ◌-◌, ◌*◌, ◌/◌, ◌<◌, ◌≤◌, Bool, true, false, ◌||◌, List, [], ◌∷◌}
-use Rattle.std.proofs.Common.{◌++◌, map, length, take, drop, get_or, length-drop, ◌⊎◌, Result, Ok}
-use Rattle.std.proofs.Common.{Err, refl, sym, ap, subst, ◌∙◌, arith}
-use Rattle.std.proofs.lemmas.List.{get_or_default, get_or-drop, get_or-take, drop-append-le, drop-drop, drop-take}
-use Rattle.std.proofs.lemmas.List.{length-take-le, take-append-drop, take-take}
-use Rattle.std.proofs.Math.Seq.{take-add}
+--     ordered-ascends        ascending lists are ordered round whatever is sought
+use Rattle.std.proofs.Common.{◌≡◌, ℕ, zero, suc, ◌+◌, ◌-◌, ◌*◌, ◌/◌, ◌<◌, ◌≤◌, Bool, cond, true, false, ◌||◌, List, [], ◌∷◌}
+use Rattle.std.proofs.Common.{◌++◌, length, take, drop, get_or, length-append, length-drop, append_assoc, Result, Ok, Err, sym}
+use Rattle.std.proofs.Common.{arith}
+use Rattle.std.proofs.lemmas.List.{drop_at, get_or-drop, get_or-take, length-take-le, take-append-drop, take_at}
+use Rattle.std.proofs.lemmas.List.Elements.{at_read}
+use Rattle.std.proofs.Math.Seq.{drop-length, take-add, take-append_seam}
 use Rattle.std.specs.List.{AllByRecursion, HoldsAt}
 use Rattle.std.specs.Int.{from_bool}
 use Rattle.std.specs.Cmp.{IsTotalOrder}
 use Rattle.std.specs.List.Sorted.{IsStrictlySortedBy}
-use Rattle.std.specs.Ordering.{is_gt, is_eq, is_le, is_lt}
+use Rattle.std.specs.Ordering.{is_gt, is_eq, is_lt}
 use Rattle.std.specs.declared.cmp.Ordering.{Ordering}
 use Rattle.std.specs.declared.cmp.Ordering.TheVariants.{Less, Equal, Greater}
 use Rattle.vc_merge.specs.Ascending.{Ascends}
-use Rattle.vc_merge.specs.Place.{IsOrdered, IsFound, IsGap, IsPlace, IsNarrowed, IsPassed, IsRest, IsSearched}
+use Rattle.vc_merge.specs.Place.{IsOrdered, IsFound, IsGap, IsPlace, IsNarrowed, IsRest, IsSearched}
 use Rattle.vc_merge.specs.Place.{IsReached, place_of}
-use Rattle.vc_merge.proofs.ListLemmas.{each-at}
-
--- what holds of each element holds of those behind the first k
-each-drop : {X : Type 0} (P : X → Type 0) (xs : List X) (k : ℕ) → AllByRecursion P xs → AllByRecursion P (drop k xs)
-each-drop P [] zero p = tt
-each-drop P [] (suc k) p = tt
-each-drop P (x ∷ xs) zero p = p
-each-drop P (x ∷ xs) (suc k) p = each-drop P xs k p.1
-
--- what was read at a place holds there
-pub holds-read : {X : Type 0} (P : X → Type 0) (xs : List X) (i : ℕ) (y : X) → i < length xs → y ≡ get_or xs i y
-    → P y → HoldsAt P xs i
-holds-read P xs i y h e p = grind (arith, get_or_default)
+use Rattle.vc_merge.proofs.ListLemmas.{each-at, each-append, each-drop, each-front, each-upto}
 
 module _ {X : Type 0} (side : X → Ordering) where
   -- before an element that is not greater all are less
   less-before : (xs : List X) (i : ℕ) → IsOrdered side xs → i < length xs
       → HoldsAt (λ y. is_gt (side y) ≡ false) xs i → AllByRecursion (λ y. side y ≡ Less) (take i xs)
-  less-before [] i p h e = grind arith
-  less-before (x ∷ xs) zero p h e = tt
   less-before (x ∷ xs) (suc i) p h e =
       grind (arith, less-before xs i p.1, e x, each-at (λ y. side y ≡ Greater) xs i x)
+  less-before xs i p h e = grind arith
 
-  less-upto : (xs : List X) (i : ℕ) → IsOrdered side xs → i < length xs → HoldsAt (λ y. side y ≡ Less) xs i
-      → AllByRecursion (λ y. side y ≡ Less) (take (suc i) xs)
-  less-upto [] i p h e = grind arith
-  less-upto (x ∷ xs) zero p h e = (e x, tt)
-  less-upto (x ∷ xs) (suc i) p h e = grind (arith, less-upto xs i p.1, e x, each-at (λ y. side y ≡ Greater) xs i x)
+  -- what stands in a beginning that is less
+  less-at : (xs : List X) (start i : ℕ) (d : X) → AllByRecursion (λ y. side y ≡ Less) (take start xs) → i < start
+      → start ≤ length xs → side (get_or xs i d) ≡ Less
+  less-at xs start i d p h k =
+      grind (arith, each-at (λ y. side y ≡ Less) (take start xs) i d, get_or-take, length-take-le start xs)
 
-  -- behind an element that is greater all are, and behind one that is not less
-  greater-from : (xs : List X) (i k : ℕ) → IsOrdered side xs → i < length xs → HoldsAt (λ y. side y ≡ Greater) xs i
-      → i ≤ k → AllByRecursion (λ y. side y ≡ Greater) (drop k xs)
-  greater-from [] i k p h e l = grind arith
-  greater-from (x ∷ xs) zero zero p h e l = grind (arith, e x)
-  greater-from (x ∷ xs) zero (suc k) p h e l = grind (arith, e x, each-drop (λ y. side y ≡ Greater) xs k)
-  greater-from (x ∷ xs) (suc i) zero p h e l = grind arith
-  greater-from (x ∷ xs) (suc i) (suc k) p h e l = grind (arith, greater-from xs i k p.1)
+  not-later : (xs : List X) (i j : ℕ) → IsOrdered side xs → i < j → j < length xs
+      → HoldsAt (λ y. is_lt (side y) ≡ false) xs i → HoldsAt (λ y. is_gt (side y) ≡ false) xs j → ⊥
+  not-later [] i j p l h e f = grind arith
+  not-later (x ∷ xs) i j p l h e f = grind (arith, e x, less-before, less-at (x ∷ xs) j i x)
 
+  -- behind an element that is not less all are greater, and from one on that is greater
   greater-behind : (xs : List X) (i : ℕ) → IsOrdered side xs → i < length xs
       → HoldsAt (λ y. is_lt (side y) ≡ false) xs i → AllByRecursion (λ y. side y ≡ Greater) (drop (suc i) xs)
+  greater-behind (x ∷ xs) (suc i) p h e = greater-behind xs i p.1 (omega arith) e
   greater-behind [] i p h e = grind arith
   greater-behind (x ∷ xs) zero p h e = grind (arith, e x)
-  greater-behind (x ∷ xs) (suc i) p h e = greater-behind xs i p.1 (omega arith) e
+
+  greater-from : (xs : List X) (i k : ℕ) → IsOrdered side xs → i < length xs → HoldsAt (λ y. side y ≡ Greater) xs i
+      → i ≤ k → AllByRecursion (λ y. side y ≡ Greater) (drop k xs)
+  greater-from (x ∷ xs) (suc i) (suc k) p h e l = greater-from xs i k p.1 (omega arith) e (omega arith)
+  greater-from (x ∷ xs) zero k p h e l = each-drop (λ y. side y ≡ Greater) (x ∷ xs) k (grind (arith, e x))
+  greater-from xs i k p h e l = grind arith
 
   -- ---- the part that is searched
 
-  none-behind : (xs : List X) → AllByRecursion (λ y. side y ≡ Greater) (drop (length xs) xs)
-  none-behind [] = tt
-  none-behind (x ∷ xs) = none-behind xs
-
   pub narrowed-whole : (xs : List X) → IsNarrowed side xs 0 (length xs)
-  narrowed-whole xs = grind (arith, none-behind xs)
+  narrowed-whole xs = grind (arith, drop-length xs)
 
   module _ (xs : List X) (p : IsOrdered side xs) (start n : ℕ) (q : IsNarrowed side xs start n) where
-    -- from an element on that is not greater
-    pub narrowed-up : (s m : ℕ) → s < length xs → HoldsAt (λ y. is_gt (side y) ≡ false) xs s → start + n ≡ s + m
-        → IsNarrowed side xs s m
-    narrowed-up s m h e f = grind (arith, less-before)
-
     -- behind one that is less
-    pub narrowed-past : (i m : ℕ) → i < length xs → HoldsAt (λ y. side y ≡ Less) xs i → start + n ≡ suc i + m
-        → IsNarrowed side xs (suc i) m
-    narrowed-past i m h e f = grind (arith, less-upto)
+    pub narrowed-past : (i next m : ℕ) (y : X) → i < length xs → y ≡ get_or xs i y → Less ≡ side y → next ≡ suc i
+        → start + n ≡ next + m → IsNarrowed side xs next m
+    narrowed-past i next m y h e f k l =
+        grind (arith, at_read xs (λ z. side z ≡ Less) i y h e, less-before, each-upto (λ z. side z ≡ Less) xs i)
 
     -- before one that is greater
-    pub narrowed-down : (i m : ℕ) → i < length xs → HoldsAt (λ y. side y ≡ Greater) xs i → i ≤ start + m → m ≤ n
+    pub narrowed-down : (i m : ℕ) (y : X) → i < length xs → y ≡ get_or xs i y → Greater ≡ side y → i ≤ start + m → m ≤ n
         → IsNarrowed side xs start m
-    narrowed-down i m h e l k = grind (arith, greater-from xs i (start + m) p h e l)
+    narrowed-down i m y h e f l k =
+        grind (arith, at_read xs (λ z. side z ≡ Greater) i y h e, greater-from xs i (start + m) p)
 
   -- ---- the rest that is searched on
-
-  each-append : (P : X → Type 0) (xs ys : List X) → AllByRecursion P xs → AllByRecursion P ys → AllByRecursion P (xs ++ ys)
-  each-append P [] ys p q = q
-  each-append P (x ∷ xs) ys p q = (p.0, each-append P xs ys p.1 q)
-
-  ordered-drop : (xs : List X) (k : ℕ) → IsOrdered side xs → IsOrdered side (drop k xs)
-  ordered-drop [] zero p = tt
-  ordered-drop [] (suc k) p = tt
-  ordered-drop (x ∷ xs) zero p = p
-  ordered-drop (x ∷ xs) (suc k) p = ordered-drop xs k p.1
-
-  each-take : (P : X → Type 0) (xs : List X) (k : ℕ) → AllByRecursion P xs → AllByRecursion P (take k xs)
-  each-take P [] zero p = tt
-  each-take P [] (suc k) p = tt
-  each-take P (x ∷ xs) zero p = tt
-  each-take P (x ∷ xs) (suc k) p = (p.0, each-take P xs k p.1)
-
-  ordered-take : (xs : List X) (k : ℕ) → IsOrdered side xs → IsOrdered side (take k xs)
-  ordered-take [] zero p = tt
-  ordered-take [] (suc k) p = tt
-  ordered-take (x ∷ xs) zero p = tt
-  ordered-take (x ∷ xs) (suc k) p = grind (arith, ordered-take xs k p.1, each-take)
-
-  pub ordered-rest : (xs : List X) (start : ℕ) (rest : List X) → IsOrdered side xs → IsRest side xs start rest
-      → IsOrdered side rest
-  ordered-rest xs start rest p q = grind (arith, ordered-take, ordered-drop)
 
   -- the rest as it is cut off
   rest-part : (xs : List X) (start n : ℕ) → IsNarrowed side xs start n → IsRest side xs start (take n (drop start xs))
   rest-part xs start n q = grind (arith, length-drop, length-take-le)
 
-  -- the first element of the rest stands where the rest begins
-  rest-first : (xs : List X) (start : ℕ) (rest : List X) (y : X) → IsRest side xs start rest → 0 < length rest → y
-      ≡ get_or rest 0 y → y ≡ get_or xs start y
-  rest-first xs start rest y q h e = grind (arith, get_or-take, get_or-drop)
+  -- a rest with what is before it and behind it
+  rest-from : (xs f r b : List X) (start : ℕ) → xs ≡ f ++ r ++ b → length f ≡ start → AllByRecursion (λ y. side y ≡ Less) f
+      → AllByRecursion (λ y. side y ≡ Greater) b → IsRest side xs start r
+  rest-from xs f r b start e l p q = rw e (grind (
+    arith,
+    drop_at f (r ++ b) start l,
+    take_at f (r ++ b) start l,
+    take-append_seam r b,
+    drop_at (f ++ r) b (start + length r),
+    append_assoc f r b,
+    length-append,
+  ))
+
+  rest-split : (xs : List X) (start : ℕ) (r : List X) → IsRest side xs start r
+      → xs ≡ take start xs ++ r ++ drop (start + length r) xs
+  rest-split xs start r q = grind (arith, q.part, take-add start (length r) xs, take-append-drop (start + length r) xs)
+
+  ordered-front : (xs ys : List X) → IsOrdered side (xs ++ ys) → IsOrdered side xs
+  ordered-front [] ys p = tt
+  ordered-front (x ∷ xs) ys p = grind (arith, ordered-front xs ys p.1, each-front (λ y. side y ≡ Greater) xs ys)
+
+  ordered-behind : (xs ys : List X) → IsOrdered side (xs ++ ys) → IsOrdered side ys
+  ordered-behind [] ys p = p
+  ordered-behind (x ∷ xs) ys p = ordered-behind xs ys p.1
+
+  pub ordered-rest : (xs : List X) (start : ℕ) (rest : List X) → IsOrdered side xs → IsRest side xs start rest
+      → IsOrdered side rest
+  ordered-rest xs start rest p q = ordered-behind (take start xs) rest
+      (ordered-front (take start xs ++ rest) (drop (start + length rest) xs) (rw (← rest-split xs start rest q) p))
 
   -- what is left of the rest is a rest of the whole list
   pub rest-rest : (xs ys zs : List X) (start passed : ℕ) → IsRest side xs start ys → IsRest side ys passed zs
       → IsRest side xs (start + passed) zs
   rest-rest xs ys zs start passed q r =
-      let n = length ys in
-      let m = length zs in
-      let before : take start xs ++ take passed ys ≡ take (start + passed) xs =
-      grind (arith, q.part, take-take passed n (drop start xs), take-add start passed xs) in
-      let behind : drop (passed + m) ys ++ drop n (drop start xs) ≡ drop (start + passed + m) xs =
-      grind (
-        arith,
-        q.part,
-        drop-append-le (passed + m) ys (drop n (drop start xs)),
-        take-append-drop n (drop start xs),
-        drop-drop (passed + m) start xs,
-      ) in
-      let cut : take m (drop passed (take n (drop start xs))) ≡ take m (drop (start + passed) xs) =
-      grind (
-        arith,
-        drop-take passed (n - passed) (drop start xs),
-        take-take m (n - passed) (drop passed (drop start xs)),
-        drop-drop passed start xs,
-      ) in
-      record {
-        part = grind (arith, r.part, q.part);
-        narrowed = record {
-          within = grind arith;
-          less = grind (arith, before, each-append (λ y. side y ≡ Less) (take start xs) (take passed ys));
-          greater = rw (← behind) (each-append (λ y. side y ≡ Greater) (drop (passed + m) ys) (drop n (drop start xs))
-              r.narrowed.greater (rw (drop-drop n start xs) q.narrowed.greater));
-        };
-      }
+      let before = take start xs in let between = take passed ys in
+      let behind = drop (passed + length zs) ys in let rest = drop (start + length ys) xs in
+      rest-from xs (before ++ between) zs (behind ++ rest) (start + passed)
+      (grind (arith, rest-split xs start ys q, rest-split ys passed zs r, append_assoc))
+      (grind (arith, length-append before between, length-take-le start xs, length-take-le passed ys))
+      (each-append (λ y. side y ≡ Less) before between q.narrowed.less r.narrowed.less)
+      (each-append (λ y. side y ≡ Greater) behind rest r.narrowed.greater q.narrowed.greater)
 
   -- ---- one comparison, and three
-
-  -- what stands behind an element that is not less is greater
-  greater-later : (xs : List X) (i j : ℕ) → IsOrdered side xs → i < j → j < length xs
-      → HoldsAt (λ y. is_lt (side y) ≡ false) xs i → HoldsAt (λ y. side y ≡ Greater) xs j
-  greater-later [] i j p l h e = grind arith
-  greater-later (x ∷ xs) i zero p l h e = grind arith
-  greater-later (x ∷ xs) zero (suc j) p l h e = λ d. grind (arith, e x, each-at (λ y. side y ≡ Greater) xs j d)
-  greater-later (x ∷ xs) (suc i) (suc j) p l h e = grind (arith, greater-later xs i j p.1)
-
-  -- what is not greater is not behind what is
-  not-later : (xs : List X) (i j : ℕ) → IsOrdered side xs → i < j → j < length xs
-      → HoldsAt (λ y. side y ≡ Greater) xs i → HoldsAt (λ y. is_gt (side y) ≡ false) xs j → ⊥
-  not-later [] i j p l h e f = grind arith
-  not-later (x ∷ xs) i j p l h e f = grind (arith, e x, f x, greater-later (x ∷ xs) i j p l h)
 
   module _ (xs : List X) (p : IsOrdered side xs) where
     pub half-rest : (half r m : ℕ) → 2 ≤ length xs → half ≡ length xs / 2 → m ≡ length xs - half
         → IsReached side xs half r → IsRest side xs (r * half) (take m (drop (r * half) xs))
-    half-rest half r m h e f reached =
-        grind (
+    half-rest half r m h e f reached = rest-part xs (r * half) m
+        (grind (arith, narrowed-whole xs, less-before xs half p, greater-from xs half m p))
+
+    pub quarter-rest : (quarter m a b c : ℕ) → 4 ≤ length xs → quarter ≡ length xs / 4 → m ≡ length xs - quarter * 3
+        → IsReached side xs quarter a → IsReached side xs (quarter * 2) b → IsReached side xs (quarter * 3) c
+        → IsRest side xs ((a + b + c) * quarter) (take m (drop ((a + b + c) * quarter) xs))
+    quarter-rest quarter m a b c h e f ra rb rc = rest-part xs ((a + b + c) * quarter) m
+        (grind (
           arith,
-          rest-part xs (r * half) m,
           narrowed-whole xs,
-          narrowed-down xs p 0 (length xs) (narrowed-whole xs) half m,
-          narrowed-up xs p 0 (length xs) (narrowed-whole xs) half m,
-        )
-
-    -- the four places that three comparisons lead to
-    module _ (quarter m : ℕ) (h : 4 ≤ length xs) (e : quarter ≡ length xs / 4) (f : m ≡ length xs - quarter * 3) where
-      at-first : HoldsAt (λ y. side y ≡ Greater) xs quarter → IsNarrowed side xs 0 m
-      at-first z = grind (arith, narrowed-down xs p 0 (length xs) (narrowed-whole xs) quarter m, narrowed-whole xs)
-
-      -- from one part on that begins with no greater element, up to the next one, that begins with a greater one
-      at-part : (part next : ℕ) → next ≡ part + quarter → part + m ≤ length xs → next < length xs
-          → HoldsAt (λ y. is_gt (side y) ≡ false) xs part → HoldsAt (λ y. side y ≡ Greater) xs next → IsNarrowed side xs part m
-      at-part part next g k l o z =
-          narrowed-down xs p part (length xs - part)
-          (narrowed-up xs p 0 (length xs) (narrowed-whole xs) part (length xs - part) (omega arith) o
-          (omega arith)) next m l z (omega arith) (omega arith)
-
-      at-fourth : HoldsAt (λ y. is_gt (side y) ≡ false) xs (quarter * 3) → IsNarrowed side xs (quarter * 3) m
-      at-fourth o = narrowed-up xs p 0 (length xs) (narrowed-whole xs) (quarter * 3) m (omega arith) o (omega arith)
-
-      narrowed-quarter : (a b c : ℕ) → IsReached side xs quarter a → IsReached side xs (quarter * 2) b
-          → IsReached side xs (quarter * 3) c → IsNarrowed side xs ((a + b + c) * quarter) m
-      narrowed-quarter a b c ra rb rc =
-          grind (
-            arith,
-            at-first,
-            at-part quarter (quarter * 2),
-            at-part (quarter * 2) (quarter * 3),
-            at-fourth,
-            not-later xs quarter (quarter * 2) p,
-            not-later xs (quarter * 2) (quarter * 3) p,
-          )
-
-      pub quarter-rest : (a b c : ℕ) → IsReached side xs quarter a → IsReached side xs (quarter * 2) b
-          → IsReached side xs (quarter * 3) c → IsRest side xs ((a + b + c) * quarter) (take m (drop ((a + b + c) * quarter) xs))
-      quarter-rest a b c ra rb rc = grind (arith, rest-part, narrowed-quarter)
+          less-before,
+          greater-from xs quarter m p,
+          greater-from xs (quarter * 2) (quarter + m) p,
+          greater-from xs (quarter * 3) (quarter * 2 + m) p,
+          not-later xs quarter (quarter * 2) p,
+          not-later xs (quarter * 2) (quarter * 3) p,
+        ))
 
   -- ---- one comparison that may find it
 
@@ -229,142 +152,70 @@ module _ {X : Type 0} (side : X → Ordering) where
 
   module _ (xs : List X) (p : IsOrdered side xs) (start n middle m : ℕ) (h : middle + m ≡ start + n) (k : m + m ≤ n)
       (l : n ≤ suc (m + m)) (some : 0 < n) where
-    narrowed-half : (o : Ordering) (next : ℕ) (b : Bool) → IsNarrowed side xs start n → HoldsAt (λ y. side y ≡ o) xs (middle - 1)
-        → (is_gt o ≡ true → next ≡ start) → (is_gt o ≡ false → next ≡ middle) → b ≡ is_eq o → IsSearched side xs next m b
-    narrowed-half Less next b q e up down f =
-        let w = q.within in
-        let s : suc (middle - 1) ≡ next = let r = down refl in omega arith in
-        subst (λ b. IsSearched side xs next m b) (sym f)
-        (subst (λ i. IsNarrowed side xs i m) s (narrowed-past xs p start n q (middle - 1) m (omega arith) e (omega arith)))
-    narrowed-half Equal next b q e up down f = grind arith
-    narrowed-half Greater next b q e up down f = grind (arith, narrowed-down xs p start n q (middle - 1) m)
-
-    passed-half : (o : Ordering) (next : ℕ) (y : X) → IsPassed side xs start n → y ≡ get_or xs (middle - 1) y → o
-        ≡ side y → (is_gt o ≡ true → next ≡ start) → IsPassed side xs next m
-    passed-half o next y q e f up = grind (arith, greater-later xs (start - 1) (middle - 1) p)
-
     pub searched-half : (found b : Bool) (o : Ordering) (next : ℕ) (y : X) → IsSearched side xs start n found
-        → y ≡ get_or xs (middle - 1) y → middle - 1 < length xs → o ≡ side y → (is_gt o ≡ true → next ≡ start)
-        → (is_gt o ≡ false → next ≡ middle) → b ≡ is_eq o
+        → y ≡ get_or xs (middle - 1) y → middle - 1 < length xs → o ≡ side y → next ≡ cond (is_gt o) start middle → b ≡ is_eq o
         → IsSearched side xs next m (found || b)
-    searched-half true b o next y q e i f up down g = passed-half o next y q e f up
-    searched-half false b o next y q e i f up down g =
-        narrowed-half o next b q (holds-read (λ z. side z ≡ o) xs (middle - 1) y i e (sym f)) up down g
-
-  -- ---- three comparisons that may find it
+    searched-half true b o next y q e i f c g =
+        let read = at_read xs (λ z. is_gt (side z) ≡ false) (middle - 1) y i e in
+        grind (arith, q.equal y, not-later xs (start - 1) (middle - 1) p, read)
+    searched-half false b Less next y q e i f c g = grind (arith, narrowed-past xs p start n q (middle - 1) next m y i e f)
+    searched-half false b Equal next y q e i f c g =
+        grind (arith, at_read xs (λ z. side z ≡ Equal) (middle - 1) y i e (sym f))
+    searched-half false b Greater next y q e i f c g = grind (arith, narrowed-down xs p start n q (middle - 1) m y i e f)
 
   -- ---- the place
-
-  place-passed : (xs : List X) (start n : ℕ) → IsOrdered side xs → IsPassed side xs start n → IsFound side xs (start - 1)
-  place-passed xs start n p q = grind (arith, less-before, greater-behind)
-
-  not-below : (i start : ℕ) → (i < start → ⊥) → start ≤ i
-  not-below i start f = grind arith
-
-  -- among those that are less none is not
-  both : (xs : List X) (start i : ℕ) → i < start → AllByRecursion (λ y. side y ≡ Less) (take start xs)
-      → i < length xs → HoldsAt (λ y. is_lt (side y) ≡ false) xs i → ⊥
-  both [] start i h p k e = omega arith
-  both (x ∷ xs) zero i h p k e = omega arith
-  both (x ∷ xs) (suc start) zero h p k e = grind (arith, e x)
-  both (x ∷ xs) (suc start) (suc i) h p k e = grind (arith, both xs start i)
-
-  gap : (xs : List X) (start i : ℕ) → i < start → AllByRecursion (λ y. side y ≡ Less) (take start xs) → start
-      ≤ length xs → AllByRecursion (λ y. side y ≡ Greater) (drop i xs) → ⊥
-  gap [] start i h p k e = omega arith
-  gap (x ∷ xs) zero i h p k e = omega arith
-  gap (x ∷ xs) (suc start) zero h p k e = grind arith
-  gap (x ∷ xs) (suc start) (suc i) h p k e = grind (arith, gap xs start i)
 
   -- an element that was read and is equal
   pub place-met : (xs : List X) (i : ℕ) (y : X) → IsOrdered side xs → i < length xs → y ≡ get_or xs i y → Equal
       ≡ side y → IsFound side xs i
-  place-met xs i y p h e f = subst (λ i. IsFound side xs i) (omega arith)
-      (place-passed xs (i + 1) 0 p
-      (record {
-        within = omega arith;
-        some = omega arith;
-        equal = subst (λ i. HoldsAt (λ z. side z ≡ Equal) xs i) (omega arith)
-            (holds-read (λ z. side z ≡ Equal) xs i y h e (sym f));
-      }))
+  place-met xs i y p h e f = grind (arith, at_read xs (λ z. side z ≡ Equal) i y h e, less-before xs i p, greater-behind xs i p)
 
   -- no place is among the elements that are known to be less
   pub place-behind : (xs : List X) (start n : ℕ) (r : Result ℕ ℕ) → IsNarrowed side xs start n → IsPlace side xs r
       → start ≤ place_of r
-  place-behind xs start n (Ok i) q r = not-below i start (λ h. both xs start i h q.less r.within (λ d. ap is_lt (r.equal d)))
-  place-behind xs start n (Err i) q r = grind (arith, not-below, gap)
+  place-behind [] start n r q s = grind arith
+  place-behind (x ∷ xs) start n (Ok i) q s = grind (arith, less-at (x ∷ xs) start i x, s.equal x)
+  place-behind (x ∷ xs) start n (Err i) q s = grind (
+    arith,
+    less-at (x ∷ xs) start i x,
+    each-at (λ y. side y ≡ Greater) (drop i (x ∷ xs)) 0 x,
+    get_or-drop i (x ∷ xs) 0 x,
+    length-drop i (x ∷ xs),
+  )
 
   pub place-searched : (xs : List X) (start n : ℕ) (found : Bool) → IsOrdered side xs
       → IsSearched side xs start n found → found ≡ true → IsFound side xs (start - 1)
-  place-searched xs start n true p q f = place-passed xs start n p q
-  place-searched xs start n false p q f = grind arith
+  place-searched xs start n found p q f = grind (arith, less-before, greater-behind)
 
-  place-narrowed : (xs : List X) (start : ℕ) → IsNarrowed side xs start 0 → IsGap side xs start
-  place-narrowed xs start q = grind arith
-
-  module _ (xs : List X) (start : ℕ) (p : IsOrdered side xs) (q : IsNarrowed side xs start 1) (y : X)
-      (e : y ≡ get_or xs start y) where
-    in-bounds : start < length xs
-    in-bounds = grind arith
-
-    place-below : Less ≡ side y → IsGap side xs (start + 1)
-    place-below f =
-        place-narrowed xs (start + 1) (subst (λ i. IsNarrowed side xs i 0) (omega arith)
-        (narrowed-past xs p start 1 q start 0 in-bounds (holds-read (λ z. side z ≡ Less) xs start y in-bounds e (sym f))
-        (omega arith)))
-
-    place-at : Equal ≡ side y → IsFound side xs start
-    place-at f = place-met xs start y p in-bounds e f
-
-    place-above : Greater ≡ side y → IsGap side xs start
-    place-above f = place-narrowed xs start
-        (narrowed-down xs p start 1 q start 0 in-bounds
-        (holds-read (λ z. side z ≡ Greater) xs start y in-bounds e (sym f)) (omega arith) (omega arith))
-
-  -- the same where one element is left to search, and compares as `o`
+  -- where one element is left to search, and compares as `o`
   module _ (xs : List X) (start : ℕ) (one : List X) (p : IsOrdered side xs) (q : IsRest side xs start one)
       (h : length one ≡ 1) (y : X) (e : y ≡ get_or one 0 y) where
-    narrowed-one : IsNarrowed side xs start 1
-    narrowed-one = grind arith
-
     at-start : y ≡ get_or xs start y
-    at-start = grind (arith, rest-first)
+    at-start = grind (arith, get_or-take, get_or-drop)
 
     pub place-equal : (o : Ordering) → o ≡ side y → is_eq o ≡ true → IsFound side xs start
-    place-equal o f g = grind (arith, place-at, narrowed-one, at-start)
+    place-equal o f g = grind (arith, place-met xs start y p, at-start)
 
     -- one place further where the element is less
     pub place-unequal : (o : Ordering) (b : Bool) → o ≡ side y → is_eq o ≡ false → b ≡ is_lt o
         → IsGap side xs (start + from_bool b)
-    place-unequal o b f g k = grind (arith, place-below, narrowed-one, at-start, place-above)
+    place-unequal Less b f g k =
+        grind (arith, at-start, narrowed-past xs p start (length one) q.narrowed start (start + from_bool b) 0 y)
+    place-unequal Equal b f g k = grind arith
+    place-unequal Greater b f g k = grind (arith, at-start, narrowed-down xs p start (length one) q.narrowed start 0 y)
 
 -- ---- ascending lists are ordered round whatever is sought
 
 module _ {K : Type 0} (cmp : K → K → Ordering) (total : IsTotalOrder cmp) (k : K) where
   module _ {X : Type 0} (key : X → K) where
-    all-above : (x : X) (o : Ordering) → cmp (key x) k ≡ o → is_lt o ≡ false → (ys : List X)
+    all-above : (x : X) → is_lt (cmp (key x) k) ≡ false → (ys : List X)
         → AllByRecursion (λ y. cmp (key x) (key y) ≡ Less) ys → AllByRecursion (λ y. cmp (key y) k ≡ Greater) ys
-    all-above x o e f [] p = tt
-    all-above x o e f (y ∷ ys) p = grind (arith, all-above x o e f ys p.1)
-
-    beside : (x : X) (ys : List X) (o : Ordering) → cmp (key x) k ≡ o
-        → AllByRecursion (λ y. cmp (key x) (key y) ≡ Less) ys
-        → (cmp (key x) k ≡ Less) ⊎ AllByRecursion (λ y. cmp (key y) k ≡ Greater) ys
-    beside x ys o e p = grind (arith, all-above)
+    all-above x f [] p = tt
+    all-above x f (y ∷ ys) p = grind (arith, all-above x f ys p.1)
 
     -- a list that ascends by its keys is ordered round any key
     pub ordered-ascends : (xs : List X) → Ascends (λ x y. cmp (key x) (key y)) xs → IsOrdered (λ x. cmp (key x) k) xs
     unfolding IsStrictlySortedBy
     ordered-ascends [] p = tt
-    ordered-ascends (x ∷ xs) p = (beside x xs (cmp (key x) k) refl p.0, ordered-ascends xs p.1)
-
-module _ {K X : Type 0} (cmp : K → K → Ordering) (key : X → K) where
-  each-map : (P : K → Type 0) (xs : List X) → AllByRecursion P (map key xs) → AllByRecursion (λ x. P (key x)) xs
-  each-map P [] p = tt
-  each-map P (x ∷ xs) p = (p.0, each-map P xs p.1)
-
-  -- a list whose keys ascend
-  pub ascends-map : (xs : List X) → Ascends cmp (map key xs) → Ascends (λ x y. cmp (key x) (key y)) xs
-  unfolding IsStrictlySortedBy
-  ascends-map [] p = tt
-  ascends-map (x ∷ xs) p = (each-map (λ j. cmp (key x) j ≡ Less) xs p.0, ascends-map xs p.1)
+    ordered-ascends (x ∷ xs) p =
+        let above = λ (f : is_lt (cmp (key x) k) ≡ false). all-above x f xs p.0 in (grind (arith, above), ordered-ascends xs p.1)

@@ -1,8 +1,8 @@
 -- Elements that move within a list, and what a merge of two parts of a list shows of them.
-use Rattle.std.proofs.Common.{◌≡◌, ℕ, ◌+◌, ◌-◌, ◌<◌, ◌≤◌, List, ◌∷◌, ◌++◌, length, take, drop, set, refl, sym}
+use Rattle.std.proofs.Common.{◌≡◌, ℕ, ◌+◌, ◌-◌, ◌<◌, ◌≤◌, List, ◌++◌, length, take, drop, get_or, set, sym}
 use Rattle.std.proofs.Common.{ap, ◌∙◌, arith, rules, drop-drop}
 use native.Mathlib.Numerals.{unary_clauses}
-use Rattle.std.proofs.lemmas.List.{same_lists, places, drop-set-add, drop-set-lt, take-set-le}
+use Rattle.std.proofs.lemmas.List.{same_lists, places, drop-set-add, drop-set-lt, take-set-le, take-take, drop-take}
 use Rattle.std.specs.List.{SwappedAt}
 use borrow.Rule.Slice.PartMut.{put_mid}
 use Rattle.vc_merge.specs.MovesDown.{MovesDown}
@@ -11,12 +11,6 @@ use Rattle.vc_merge.proofs.MovesDownLemmas.{element, MovesDown-none, MovesDown-n
 
 module _ {X : Type 0} where
   -- ---- parts of a list
-
-  take-take : (n m : ℕ) (xs : List X) → n ≤ m → take n (take m xs) ≡ take n xs
-  take-take n m xs h = grind (arith, same_lists, places)
-
-  drop-take : (n m : ℕ) (xs : List X) → n ≤ m → drop n (take m xs) ≡ take (m - n) (drop n xs)
-  drop-take n m xs h = grind (arith, same_lists, places)
 
   -- how many there are at most from s up to e
   pub part-at_most : (xs : List X) (s e n : ℕ) → n ≤ length (take (e - s) (drop s xs)) → n ≤ e - s
@@ -29,35 +23,10 @@ module _ {X : Type 0} where
   -- a part of a part
   part-part : (xs : List X) (a b s e : ℕ) → a ≤ s → s ≤ e → e ≤ b
       → take (e - s) (drop (s - a) (take (b - a) (drop a xs))) ≡ take (e - s) (drop s xs)
-  part-part xs a b s e h i j = grind (arith, drop-take, drop-drop, take-take)
+  part-part xs a b s e h i j =
+      grind (arith, drop-take (s - a) (b - s) (drop a xs), drop-drop (s - a) a xs, take-take (e - s) (b - s) (drop s xs))
 
   -- ---- calls on slices
-
-  -- the elements up to end moved up to the place `next` by a turn
-  pub MovesUp-turned : (xs ys : List X) (start end next : ℕ) → start ≤ end → end ≤ next → next ≤ length xs
-      → ys ≡ drop (end - start) (take (next - start) (drop start xs)) ++ take (end - start) (take (next - start) (drop start xs))
-      → MovesUp xs start end next (put_mid start (next - start) xs ys)
-  MovesUp-turned xs ys start end next low high within e =
-      record {
-        same_length = rw e (search (rules, places));
-        front = rw e (same_lists _ _ (search (rules, places)) (λ k d h. grind (arith, places)));
-        moved = rw e (same_lists _ _ (search (rules, places)) (λ k d h. grind (arith, places)));
-        rest = rw e (same_lists _ _ (search (rules, places)) (λ k d h. grind (arith, places)));
-      }
-
-  -- the same by a trade, where the gap is long enough
-  pub MovesUp-swapped : (xs front back sub other : List X) (start end next : ℕ) → start ≤ end → end ≤ next
-      → end - start ≤ next - end → next ≤ length xs
-      → front ≡ take (next - (end - start)) xs → back ≡ drop (next - (end - start)) xs → sub
-      ≡ take (end - start) back → other ≡ take (end - start) (drop start front)
-      → MovesUp xs start end next (put_mid start (end - start) front sub ++ (other ++ drop (end - start) back))
-  MovesUp-swapped xs front back sub other start end next low high apart within a b c d =
-      rw (d, c, b, a) record {
-        same_length = search (rules, places);
-        front = same_lists _ _ (search (rules, places)) (λ k d h. grind (arith, places));
-        moved = same_lists _ _ (search (rules, places)) (λ k d h. grind (arith, places));
-        rest = same_lists _ _ (search (rules, places)) (λ k d h. grind (arith, places));
-      }
 
   -- a run moved down by a turn
   pub Turns-turned : (xs ys : List X) (at next n : ℕ) → at ≤ next → next + n ≤ length xs
@@ -69,6 +38,37 @@ module _ {X : Type 0} where
         front = rw e (same_lists _ _ (search (rules, places)) (λ k d h. grind (arith, places)));
         moved = rw e (same_lists _ _ (search (rules, places)) (λ k d h. grind (arith, places)));
         rest = rw e (same_lists _ _ (search (rules, places)) (λ k d h. grind (arith, places)));
+      }
+
+  -- the elements up to end moved up to the place `next` by a turn
+  pub MovesUp-turned : (xs ys : List X) (start end next : ℕ) → start ≤ end → end ≤ next → next ≤ length xs
+      → ys ≡ drop (end - start) (take (next - start) (drop start xs)) ++ take (end - start) (take (next - start) (drop start xs))
+      → MovesUp xs start end next (put_mid start (next - start) xs ys)
+  MovesUp-turned xs ys start end next low high within e =
+      let whole : end + (next - end) ≡ next = omega arith in
+      let t = Turns-turned xs ys start end (next - end) low (omega arith) (rw whole e) in
+      let front : take start (put_mid start (next - start) xs ys) ≡ take start xs =
+      rw e (same_lists _ _ (search (rules, places)) (λ k d h. grind (arith, places))) in
+      grind (arith, t, front)
+
+  -- the elements from `at` on moved down to the place `kept` by a turn
+  pub MovesDown-turned : (xs ys : List X) (kept at n : ℕ) → kept ≤ at → at + n ≤ length xs
+      → ys ≡ drop (at - kept) (take (at + n - kept) (drop kept xs)) ++ take (at - kept) (take (at + n - kept) (drop kept xs))
+      → MovesDown xs kept at n (put_mid kept (at + n - kept) xs ys)
+  MovesDown-turned xs ys kept at n low within e = grind (arith, Turns-turned xs ys kept at n low within e)
+
+  -- the elements up to end moved up by a trade, where the gap is long enough
+  pub MovesUp-swapped : (xs front back sub other : List X) (start end next : ℕ) → start ≤ end → end ≤ next
+      → end - start ≤ next - end → next ≤ length xs
+      → front ≡ take (next - (end - start)) xs → back ≡ drop (next - (end - start)) xs → sub
+      ≡ take (end - start) back → other ≡ take (end - start) (drop start front)
+      → MovesUp xs start end next (put_mid start (end - start) front sub ++ (other ++ drop (end - start) back))
+  MovesUp-swapped xs front back sub other start end next low high apart within a b c d =
+      rw (d, c, b, a) record {
+        same_length = search (rules, places);
+        front = same_lists _ _ (search (rules, places)) (λ k d h. grind (arith, places));
+        moved = same_lists _ _ (search (rules, places)) (λ k d h. grind (arith, places));
+        rest = same_lists _ _ (search (rules, places)) (λ k d h. grind (arith, places));
       }
 
   -- two runs changed places, each in its part of the list
@@ -94,91 +94,46 @@ module _ {X : Type 0} where
   pub Trades-one : (xs ys : List X) (at next : ℕ) → at < next → next < length xs → length ys ≡ length xs
       → SwappedAt xs ys at next → Trades xs at next 1 ys
   Trades-one xs ys at next apart within long swapped =
-      let d = element xs next within in
+      let d = element xs next within in let x = get_or xs next d in
       let moved = MovesDown-next xs xs ys at next 0 apart (omega arith) long (MovesDown-none xs at next)
       (simp unary_clauses swapped) in
-      record {
-        same_length = long;
-        front = moved.front;
-        between = ap (λ l. take (next - (at + 1)) (drop (at + 1) l)) (swapped.3 d)
-            ∙ part-before (set xs at _) (at + 1) next next _ (omega arith) (omega arith)
-            ∙ ap (take (next - (at + 1))) (drop-set-lt (at + 1) xs at _ (omega arith));
-        rest = moved.rest;
-      }
+      let kept = part-before (set xs at x) (at + 1) next next (get_or xs at d) in
+      grind (arith, moved, swapped.3 d, kept, drop-set-lt (at + 1) xs at x)
 
   -- ---- what the state shows: xs is its list, with b elements built, those from s to e left of the left part, and those from
   -- next on of the right one; ys is the list afterwards
 
   module _ (xs ys : List X) (b s e next : ℕ) (hole : b ≤ s) (left : s ≤ e) (gap : e ≤ next) where
     -- once what is left moved up
-    module _ (moved : MovesUp xs s e next ys) where
-      pub up-built : take b ys ≡ take b xs
-      up-built = grind (arith, take-take b s ys hole, take-take b s xs hole)
+    pub up-built : MovesUp xs s e next ys → take b ys ≡ take b xs
+    up-built moved = grind (arith, take-take b s ys hole, take-take b s xs hole)
 
     -- once the first n that were left moved down
-    module _ (n : ℕ) (few : n ≤ e - s) (moved : MovesDown xs b s n ys) where
-      pub down-built : take (b + n) ys ≡ take b xs ++ take n (take (e - s) (drop s xs))
-      down-built = grind (arith, take-take)
+    pub down : (n : ℕ) → n ≤ e - s → MovesDown xs b s n ys
+        → (take (b + n) ys ≡ take b xs ++ take n (take (e - s) (drop s xs)))
+        × (take (e - (s + n)) (drop (s + n) ys) ≡ drop n (take (e - s) (drop s xs))) × (drop next ys ≡ drop next xs)
+    down n few moved =
+        grind (arith, take-take, part-drop, drop-drop (next - (s + n)) (s + n) ys, drop-drop (next - (s + n)) (s + n) xs)
 
-      pub down-left : take (e - (s + n)) (drop (s + n) ys) ≡ drop n (take (e - s) (drop s xs))
-      down-left = grind (arith, part-drop)
+    -- once n of the right part moved into the hole
+    pub trade-left : (n : ℕ) → b + n ≤ s → Trades xs b next n ys → take (e - s) (drop s ys) ≡ take (e - s) (drop s xs)
+    trade-left n apart traded =
+        grind (arith, part-part ys (b + n) next s e apart left gap, part-part xs (b + n) next s e apart left gap)
 
-      pub down-right : drop next ys ≡ drop next xs
-      down-right = grind (arith, drop-drop (next - (s + n)) (s + n) ys, drop-drop (next - (s + n)) (s + n) xs)
-
-    module _ (n : ℕ) where
-      -- once n of the right part moved into the hole
-      module _ (apart : b + n ≤ s) (traded : Trades xs b next n ys) where
-        pub trade-left : take (e - s) (drop s ys) ≡ take (e - s) (drop s xs)
-        trade-left = grind (arith, part-part ys (b + n) next s e apart left gap, part-part xs (b + n) next s e apart left gap)
-
-      -- once n of the right part moved before all that lay between
-      module _ (turned : Turns xs b next n ys) where
-        pub turn-left : take (e + n - (s + n)) (drop (s + n) ys) ≡ take (e - s) (drop s xs)
-        turn-left =
-            let low : b + n ≤ s + n = omega arith in let order : s + n ≤ e + n = omega arith in let high : e + n
-            ≤ next + n = omega arith in
-            let same : e + n - (s + n) ≡ e - s = omega arith in let from : s + n - (b + n) ≡ s - b = omega arith in
-            sym (part-part ys (b + n) (next + n) (s + n) (e + n) low order high)
-            ∙ ap (λ l. take (e + n - (s + n)) (drop (s + n - (b + n)) l)) turned.moved
-            ∙ (λ i. take (same i) (drop (from i) (take (next - b) (drop b xs)))) ∙ part-part xs b next s e hole left gap
+    -- once n of the right part moved before all that lay between
+    pub turn-left : (n : ℕ) → Turns xs b next n ys → take (e + n - (s + n)) (drop (s + n) ys) ≡ take (e - s) (drop s xs)
+    turn-left n turned = grind (arith, part-part ys (b + n) (next + n) (s + n) (e + n), part-part xs b next s e)
 
   -- ---- one event: by how the first elements compare, one of a part changed places with the first one of the hole
 
   module _ (xs ys : List X) (b s e next : ℕ) (hole : b + 1 ≤ s) (left : s ≤ e) (gap : e ≤ next) (some : 1 ≤ e - s)
       (within : next ≤ length xs) where
-    low : b ≤ s
-    low = omega arith
-
     -- one of the left part
-    module _ (t : Trades xs b s 1 ys) where
-      down : MovesDown xs b s 1 ys
-      down = grind arith
-
-      pub passed-built : take (b + 1) ys ≡ take b xs ++ take 1 (take (e - s) (drop s xs))
-      passed-built = down-built xs ys b s e next low left gap 1 some down
-
-      pub passed-front : take b ys ≡ take b xs
-      passed-front =
-          sym (take-take b (b + 1) ys (omega arith)) ∙ ap (take b) t.front
-          ∙ same_lists _ _ (search (rules, places)) (λ k d h. grind (arith, places))
-
-      pub passed-left : take (e - (s + 1)) (drop (s + 1) ys) ≡ drop 1 (take (e - s) (drop s xs))
-      passed-left = down-left xs ys b s e next low left gap 1 some down
-
-      pub passed-right : drop next ys ≡ drop next xs
-      passed-right = down-right xs ys b s e next low left gap 1 some down
-
-  -- ---- an element written over the first one of a part
-
-  pub first-of : (n : ℕ) (ys zs : List X) (x : X) → ys ≡ x ∷ zs → 1 ≤ n → take n ys ≡ x ∷ drop 1 (take n ys)
-  first-of n ys zs x e h = grind arith
-
-  pub first-over : (n : ℕ) (ys ws zs : List X) (x y : X) → ys ≡ x ∷ zs → ws ≡ y ∷ zs → 1 ≤ n → take n ws ≡ y ∷ drop 1 (take n ys)
-  first-over n ys ws zs x y e f h = grind arith
-
-  pub first-on : (ys zs : List X) (x : X) → ys ≡ x ∷ zs → ys ≡ x ∷ drop 1 ys
-  first-on ys zs x e = rw e refl
-
-  pub rest-over : (ws ys zs : List X) (x y : X) → ys ≡ x ∷ zs → ws ≡ y ∷ zs → ws ≡ y ∷ drop 1 ys
-  rest-over ws ys zs x y e f = rw (e, f) refl
+    pub passed : Trades xs b s 1 ys → (take (b + 1) ys ≡ take b xs ++ take 1 (take (e - s) (drop s xs))) × (take b ys ≡ take b xs)
+        × (take (e - (s + 1)) (drop (s + 1) ys) ≡ drop 1 (take (e - s) (drop s xs))) × (drop next ys ≡ drop next xs)
+    passed t =
+        let low : b ≤ s = omega arith in let moved : MovesDown xs b s 1 ys = grind arith in
+        let front : take b (take b xs ++ take 1 (drop s xs)) ≡ take b xs =
+        same_lists _ _ (search (rules, places)) (λ k d h. grind (arith, places)) in
+        let d = down xs ys b s e next low left gap 1 some moved in
+        (d.0, sym (take-take b (b + 1) ys (omega arith)) ∙ ap (take b) t.front ∙ front, d.1, d.2)

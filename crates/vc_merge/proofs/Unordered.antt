@@ -4,14 +4,12 @@
 --     found-unordered        both, of a list with keys
 --     if-made        what holds of a list holds of the list that is made of it
 use Rattle.std.proofs.Common.{◌≡◌, Bool, true, List, [], ◌∷◌, Option, Some, None, Result}
-use Rattle.std.proofs.Common.{IfOk, refl, sym, ap, ◌∙◌, arith}
+use Rattle.std.proofs.Common.{IfOk, refl, ◌∙◌, arith}
 use Rattle.std.specs.Cmp.{IsTotalOrder}
 use Rattle.std.specs.List.{dedup, dedup_from, filter, find}
 use Rattle.std.specs.List.Sorted.{IsStableBy, ties}
 use Rattle.std.specs.Ordering.{is_eq, is_lt}
 use Rattle.std.specs.declared.cmp.Ordering.{Ordering}
-use Rattle.std.specs.declared.cmp.Ordering.TheVariants.{Equal}
-use Rattle.vc_merge.proofs.Members.{equal-from_is_eq}
 
 module _ {X : Type 0} (p : X → Bool) where
   -- what is found passes
@@ -28,13 +26,10 @@ module _ {X : Type 0} (p : X → Bool) where
   pub find-stable : (xs ys : List X) → ((e : X) → p e ≡ true → filter p ys ≡ filter p xs) → find p ys ≡ find p xs
   find-stable xs ys same = by (find p ys) (find p xs) refl refl
     where
-      along : filter p ys ≡ filter p xs → find p ys ≡ find p xs
-      along e = find-filter ys ∙ ap (find (λ y. true)) e ∙ sym (find-filter xs)
-
       by : (o q : Option X) → find p ys ≡ o → find p xs ≡ q → find p ys ≡ find p xs
-      by None None e f = e ∙ sym f
-      by None (Some x) e f = along (same x (found-passes xs x f))
-      by (Some y) q e f = along (same y (found-passes ys y e))
+      by None None e f = grind arith
+      by None (Some x) e f = grind (arith, find-filter, same x, found-passes xs x)
+      by (Some y) q e f = grind (arith, find-filter, same y, found-passes ys y)
 
   module _ (same : X → X → Bool) (respects : (x y : X) → same x y ≡ true → p x ≡ p y) where
     find-dedup_from : (k : X) (xs : List X) → find p (dedup_from same k xs) ≡ find p (k ∷ xs)
@@ -46,25 +41,16 @@ module _ {X : Type 0} (p : X → Bool) where
 
 module _ {K X : Type 0} (cmp : K → K → Ordering) (total : IsTotalOrder cmp) (key : X → K) where
   module _ (p : X → Bool) (k : K) (tests : (y : X) → p y ≡ is_eq (cmp (key y) k)) where
-    at-tie : (e : X) → p e ≡ true → (y : X) → ties (λ x y. is_lt (cmp (key x) (key y))) e y ≡ p y
-    at-tie e h y = grind arith
+    alike : (e : X) → p e ≡ true → (l : List X) → filter p l ≡ filter (ties (λ x y. is_lt (cmp (key x) (key y))) e) l
+    alike e h [] = refl
+    alike e h (y ∷ l) = grind (arith, alike e h l)
 
     -- of a list that is sorted stably by its keys, once what repeats is dropped
     pub found-unordered : (same : X → X → Bool) → ((x y : X) → same x y ≡ is_eq (cmp (key x) (key y))) → (xs ys : List X)
         → IsStableBy (λ x y. is_lt (cmp (key x) (key y))) xs ys → find p (dedup same ys) ≡ find p xs
     found-unordered same matches xs ys stable =
-        find-dedup p same respects ys ∙ find-stable p xs ys (λ e h. passing e h)
-      where
-        respects : (x y : X) → same x y ≡ true → p x ≡ p y
-        respects x y h =
-            let equal : cmp (key x) (key y) ≡ Equal = equal-from_is_eq (cmp (key x) (key y)) (sym (matches x y) ∙ h) in
-            tests x ∙ ap is_eq (total.congr (key x) (key y) k equal) ∙ sym (tests y)
-
-        alike : (e : X) → p e ≡ true → (l : List X) → filter p l ≡ filter (ties (λ x y. is_lt (cmp (key x) (key y))) e) l
-        alike e h l = λ i. filter (λ y. sym (at-tie e h y) i) l
-
-        passing : (e : X) → p e ≡ true → filter p ys ≡ filter p xs
-        passing e h = alike e h ys ∙ stable e ∙ sym (alike e h xs)
+        find-dedup p same (λ x y h. grind (arith, tests, matches x y)) ys
+        ∙ find-stable p xs ys (λ e h. grind (arith, alike e h, stable e))
 
 pub if-made : {X E : Type 0} (P : List X → Type 0) (list : List X) → P list → (r : Result (List X) E)
     → IfOk r (λ made. made ≡ list) → IfOk r P

@@ -3,6 +3,8 @@ use Rattle.std.specs.Prelude.{◌≡◌, ℕ, true, List, drop, IfOk}
 use Rattle.std.specs.declared.cmp.Ordering.{Ordering}
 use Rattle.std.specs.declared.cmp.Ordering.TheVariants.{Less, Equal, Greater}
 use Rattle.vc_merge.specs.Chain.{Answer}
+use Rattle.vc_merge.specs.declared.plan.Side.{Side}
+use Rattle.vc_merge.specs.declared.plan.Side.TheVariants.{Left, Right}
 
 module _ {M A B : Type 0} (left : M → List A) (right : M → List B) (ready : M → Type 0) where
   -- n elements off the left list, and the state can continue
@@ -12,6 +14,11 @@ module _ {M A B : Type 0} (left : M → List A) (right : M → List B) (ready : 
   -- n elements off the right list
   abbrev pub TakesRight : ℕ → M → Answer → M → Type 0
   TakesRight n s answer t = IfOk answer (λ go_on. go_on ≡ true → (left t ≡ left s) × (right t ≡ drop n (right s)) × ready t)
+
+  -- n elements off the list on a side
+  abbrev pub TakesSide : Side → ℕ → M → Answer → M → Type 0
+  TakesSide Left n s answer t = TakesLeft n s answer t
+  TakesSide Right n s answer t = TakesRight n s answer t
 
   -- the first element of each list
   abbrev pub TakesBoth : M → Answer → M → Type 0

@@ -164,7 +164,7 @@ impl<'a, T> PartsState<'a, T> {
         ensures { Shows (list_name self.old) (built_items self.old ++ value ∷ [])
             (left_items self.old) (drop 1 (right_items self.old)) self.new }
     {
-        self.open_hole();
+        self.widen(1);
         if self.hole() > 0 {
             return self.put_in_hole(value);
         }
@@ -194,15 +194,6 @@ impl<'a, T> PartsState<'a, T> {
         ensures { result ≡ hole_places self.now }
     {
         self.start - self.built
-    }
-
-    /// Makes the gap the hole, where there is no hole.
-    #[inline(always)]
-    fn open_hole(&mut self)
-        ensures { Shows (list_name self.old) (built_items self.old) (left_items self.old)
-            (right_items self.old) self.new }
-    {
-        self.widen(1);
     }
 
     /// Moves the lesser of the first elements of both parts to the end of what is built, without a

@@ -1,14 +1,14 @@
 //! The searching body of a merge: each element of the shorter list is searched for in what is left
 //! of the longer one.
-ghost use Rattle.std.specs.Prelude.{◌≡◌, ◌+◌, ◌*◌, ◌/◌, ◌^◌, ◌<◌, ◌≤◌, ◌↔◌, true, take, drop, length, min, max, IfOk, IsTrue};
+ghost use Rattle.std.specs.Prelude.{◌≡◌, ◌+◌, ◌*◌, ◌/◌, ◌^◌, ◌<◌, ◌≤◌, ◌↔◌, true, [], length, min, max, is_ok, IfOk, IsTrue, ◌⊎◌};
 ghost use Rattle.std.proofs.Common.{inl, inr};
 ghost use Rattle.vc_merge.specs.Chain.{allows};
 ghost use Rattle.vc_merge.specs.Count.{by_strides, digits};
 ghost use Rattle.vc_merge.specs.Place.{place_of};
 ghost use Rattle.vc_merge.specs.Script.{BothAscend};
 ghost use Rattle.vc_merge.specs.Plan.{fewer, more};
-ghost use Rattle.vc_merge.specs.Progress.{GoesOn, IsWalk, IsLeftPlace, IsRightPlace, LeftBelow, RightBelow};
-ghost use Rattle.vc_merge.specs.Takes.{TakesLeft, TakesRight};
+ghost use Rattle.vc_merge.specs.Progress.{GoesOn, IsFirstPlace, IsFront, opposite};
+ghost use Rattle.vc_merge.specs.Takes.{TakesSide};
 
 use crate::linear::{meet, pass_left, pass_right};
 use crate::merge::{Count, MergeOperation, MergeState};
@@ -74,11 +74,13 @@ pub(crate) fn search_each<M: MergeState, C: Count, O: MergeOperation<M, C>>(
     requires ascend { BothAscend (O.order op.now) (M.left state.old) (M.right state.old) }
     requires exponent { exponent < 64 }
     ensures walk { let left = length (M.left state.old) in let right = length (M.right state.old) in
-        IsWalk (allows M.left M.right (O.gives op.now)) (O.order op.now)
+        GoesOn (allows M.left M.right (O.gives op.now)) (O.order op.now)
         (λ ls rs. C.counted steps.new + by_strides exponent
         (fewer shorter (length ls) (length rs)) (more shorter (length ls) (length rs))
         ≤ C.counted steps.old + by_strides exponent (fewer shorter left right)
         (more shorter left right)) state.old result state.new }
+    ensures spent { IfOk result (λ go_on. go_on ≡ true
+        → (M.left state.new ≡ []) ⊎ (M.right state.new ≡ [])) }
     ensures ready { IfOk result (λ go_on. go_on ≡ true → O.ready op.now state.new) }
     ensures counted { let left = length (M.left state.old) in
         let right = length (M.right state.old) in
@@ -94,7 +96,7 @@ pub(crate) fn search_each<M: MergeState, C: Count, O: MergeOperation<M, C>>(
 }
 
 /// Searches for the first element of the shorter list, and hands over what is below it, and then
-/// that element.
+/// that element, alone or with its equal.
 #[inline(always)]
 fn place_first<M: MergeState, C: Count, O: MergeOperation<M, C>>(
     state: &mut M,
@@ -127,180 +129,100 @@ fn place_first<M: MergeState, C: Count, O: MergeOperation<M, C>>(
         (length (M.right state.old)) in
         C.counted steps.new ≤ C.counted steps.old + exponent + before / 2 ^ exponent }
 {
+    let (below, is_met) = find_first(state, op, shorter, exponent, steps);
+    if !pass_side(state, op, opposite(shorter), below)? {
+        return Ok(false);
+    }
+    if is_met {
+        return meet(state, op);
+    }
+    pass_side(state, op, shorter, 1)
+}
+
+/// The other list.
+#[inline(always)]
+fn opposite(side: Side) -> Side
+    ensures { result ≡ opposite side }
+{
+    match side {
+        Side::Left => Side::Right,
+        Side::Right => Side::Left,
+    }
+}
+
+/// Hands over `n` elements of a list that are below the other one, where there are any.
+#[inline(always)]
+fn pass_side<M: MergeState, C: Count, O: MergeOperation<M, C>>(
+    state: &mut M,
+    op: &O,
+    side: Side,
+    n: usize,
+) -> Result<bool, AllocError>
+    requires ready { O.ready op.now state.old }
+    requires ascend { BothAscend (O.order op.now) (M.left state.old) (M.right state.old) }
+    requires front { IsFront (O.order op.now) side n (M.left state.old) (M.right state.old) }
+    ensures goes_on { GoesOn (allows M.left M.right (O.gives op.now)) (O.order op.now) (λ _ _. ⊥)
+        state.old result state.new }
+    ensures takes { TakesSide M.left M.right (O.ready op.now) side n state.old result state.new }
+{
+    if n == 0 {
+        return Ok(true);
+    }
+    match side {
+        Side::Left => pass_left(state, op, n),
+        Side::Right => pass_right(state, op, n),
+    }
+}
+
+/// How many elements of the longer list are below the first one of the shorter list, and whether
+/// the next one is equal to it.
+#[inline(always)]
+fn find_first<M: MergeState, C: Count, O: MergeOperation<M, C>>(
+    state: &M,
+    op: &O,
+    shorter: Side,
+    exponent: u32,
+    steps: &mut C,
+) -> (usize, bool)
+    requires ascend { BothAscend (O.order op.now) (M.left state.now) (M.right state.now) }
+    requires exponent { exponent < 64 }
+    requires some_left { 0 < length (M.left state.now) }
+    requires some_right { 0 < length (M.right state.now) }
+    ensures place { IsFirstPlace (O.order op.now) shorter result.0 result.1 (M.left state.now)
+        (M.right state.now) }
+    ensures counted { let others = more shorter (length (M.left state.now))
+        (length (M.right state.now)) in
+        C.counted steps.new ≤ C.counted steps.old + exponent
+        + min (others / 2 ^ exponent) (result.0 / 2 ^ exponent + 1) }
+{
     match shorter {
-        Side::Left => place_left(state, op, exponent, steps),
-        Side::Right => place_right(state, op, exponent, steps),
-    }
-}
-
-/// Hands over the right elements below the first left one, and then that one, alone or with its
-/// equal.
-#[inline(always)]
-fn place_left<M: MergeState, C: Count, O: MergeOperation<M, C>>(
-    state: &mut M,
-    op: &O,
-    exponent: u32,
-    steps: &mut C,
-) -> Result<bool, AllocError>
-    requires ready { O.ready op.now state.old }
-    requires ascend { BothAscend (O.order op.now) (M.left state.old) (M.right state.old) }
-    requires exponent { exponent < 64 }
-    requires some { 0 < length (M.left state.old) }
-    ensures goes_on { let left = length (M.left state.old) in let right = length (M.right state.old)
-        in GoesOn (allows M.left M.right (O.gives op.now)) (O.order op.now)
-        (λ ls rs. (length ls < left) × (C.counted steps.new + length rs / 2 ^ exponent
-        ≤ C.counted steps.old + (exponent + 1) + right / 2 ^ exponent)) state.old result state.new }
-    ensures ready { IfOk result (λ go_on. go_on ≡ true → O.ready op.now state.new) }
-    ensures fewer { IfOk result (λ go_on. go_on ≡ true
-        → length (M.left state.new) < length (M.left state.old)) }
-    ensures paid { IfOk result (λ go_on. go_on ≡ true
-        → C.counted steps.new + length (M.right state.new) / 2 ^ exponent
-        ≤ C.counted steps.old + (exponent + 1) + length (M.right state.old) / 2 ^ exponent) }
-    ensures counted { C.counted steps.new
-        ≤ C.counted steps.old + exponent + length (M.right state.old) / 2 ^ exponent }
-{
-    match find_left(state, op, exponent, steps) {
-        Ok(place) => {
-            if !pass_rights(state, op, place)? {
-                return Ok(false);
-            }
-            meet(state, op)
+        Side::Left => {
+            let sought = LeftElement {
+                op,
+                element: &state.a_slice()[0],
+            };
+            place_found(search_near(state.b_slice(), &sought, exponent, steps))
         }
-        Err(gap) => {
-            if !pass_rights(state, op, gap)? {
-                return Ok(false);
-            }
-            pass_left(state, op, 1)
+        Side::Right => {
+            let sought = RightElement {
+                op,
+                element: &state.b_slice()[0],
+            };
+            place_found(search_near(state.a_slice(), &sought, exponent, steps))
         }
     }
 }
 
-/// Hands over the left elements below the first right one, and then that one, alone or with its
-/// equal.
+/// The place that a search found, and whether an equal element is there.
 #[inline(always)]
-fn place_right<M: MergeState, C: Count, O: MergeOperation<M, C>>(
-    state: &mut M,
-    op: &O,
-    exponent: u32,
-    steps: &mut C,
-) -> Result<bool, AllocError>
-    requires ready { O.ready op.now state.old }
-    requires ascend { BothAscend (O.order op.now) (M.left state.old) (M.right state.old) }
-    requires exponent { exponent < 64 }
-    requires some { 0 < length (M.right state.old) }
-    ensures goes_on { let left = length (M.left state.old) in let right = length (M.right state.old)
-        in GoesOn (allows M.left M.right (O.gives op.now)) (O.order op.now)
-        (λ ls rs. (length rs < right) × (C.counted steps.new + length ls / 2 ^ exponent
-        ≤ C.counted steps.old + (exponent + 1) + left / 2 ^ exponent)) state.old result state.new }
-    ensures ready { IfOk result (λ go_on. go_on ≡ true → O.ready op.now state.new) }
-    ensures fewer { IfOk result (λ go_on. go_on ≡ true
-        → length (M.right state.new) < length (M.right state.old)) }
-    ensures paid { IfOk result (λ go_on. go_on ≡ true
-        → C.counted steps.new + length (M.left state.new) / 2 ^ exponent
-        ≤ C.counted steps.old + (exponent + 1) + length (M.left state.old) / 2 ^ exponent) }
-    ensures counted { C.counted steps.new
-        ≤ C.counted steps.old + exponent + length (M.left state.old) / 2 ^ exponent }
+fn place_found(found: Result<usize, usize>) -> (usize, bool)
+    ensures place { result.0 ≡ place_of found }
+    ensures equal { result.1 ≡ is_ok found }
 {
-    match find_right(state, op, exponent, steps) {
-        Ok(place) => {
-            if !pass_lefts(state, op, place)? {
-                return Ok(false);
-            }
-            meet(state, op)
-        }
-        Err(gap) => {
-            if !pass_lefts(state, op, gap)? {
-                return Ok(false);
-            }
-            pass_right(state, op, 1)
-        }
+    match found {
+        Ok(place) => (place, true),
+        Err(place) => (place, false),
     }
-}
-
-/// Hands over `n` left elements that are below the right list, where there are any.
-#[inline(always)]
-fn pass_lefts<M: MergeState, C: Count, O: MergeOperation<M, C>>(
-    state: &mut M,
-    op: &O,
-    n: usize,
-) -> Result<bool, AllocError>
-    requires ready { O.ready op.now state.old }
-    requires ascend { BothAscend (O.order op.now) (M.left state.old) (M.right state.old) }
-    requires within { n ≤ length (M.left state.old) }
-    requires below { LeftBelow (O.order op.now) (take n (M.left state.old)) (M.right state.old) }
-    ensures goes_on { GoesOn (allows M.left M.right (O.gives op.now)) (O.order op.now) (λ _ _. ⊥)
-        state.old result state.new }
-    ensures takes { TakesLeft M.left M.right (O.ready op.now) n state.old result state.new }
-{
-    if n == 0 {
-        return Ok(true);
-    }
-    pass_left(state, op, n)
-}
-
-/// Hands over `n` right elements that are below the left list, where there are any.
-#[inline(always)]
-fn pass_rights<M: MergeState, C: Count, O: MergeOperation<M, C>>(
-    state: &mut M,
-    op: &O,
-    n: usize,
-) -> Result<bool, AllocError>
-    requires ready { O.ready op.now state.old }
-    requires ascend { BothAscend (O.order op.now) (M.left state.old) (M.right state.old) }
-    requires within { n ≤ length (M.right state.old) }
-    requires below { RightBelow (O.order op.now) (take n (M.right state.old)) (M.left state.old) }
-    ensures goes_on { GoesOn (allows M.left M.right (O.gives op.now)) (O.order op.now) (λ _ _. ⊥)
-        state.old result state.new }
-    ensures takes { TakesRight M.left M.right (O.ready op.now) n state.old result state.new }
-{
-    if n == 0 {
-        return Ok(true);
-    }
-    pass_right(state, op, n)
-}
-
-/// The place of the first left element in the right list, or the gap where it would be.
-#[inline(always)]
-fn find_left<M: MergeState, C: Count, O: MergeOperation<M, C>>(
-    state: &M,
-    op: &O,
-    exponent: u32,
-    steps: &mut C,
-) -> Result<usize, usize>
-    requires ascend { BothAscend (O.order op.now) (M.left state.now) (M.right state.now) }
-    requires exponent { exponent < 64 }
-    requires some { 0 < length (M.left state.now) }
-    ensures place { IsLeftPlace (O.order op.now) (M.left state.now) (M.right state.now) result }
-    ensures counted { C.counted steps.new ≤ C.counted steps.old + exponent
-        + min (length (M.right state.now) / 2 ^ exponent) (place_of result / 2 ^ exponent + 1) }
-{
-    let sought = LeftElement {
-        op,
-        element: &state.a_slice()[0],
-    };
-    search_near(state.b_slice(), &sought, exponent, steps)
-}
-
-/// The place of the first right element in the left list, or the gap where it would be.
-#[inline(always)]
-fn find_right<M: MergeState, C: Count, O: MergeOperation<M, C>>(
-    state: &M,
-    op: &O,
-    exponent: u32,
-    steps: &mut C,
-) -> Result<usize, usize>
-    requires ascend { BothAscend (O.order op.now) (M.left state.now) (M.right state.now) }
-    requires exponent { exponent < 64 }
-    requires some { 0 < length (M.right state.now) }
-    ensures place { IsRightPlace (O.order op.now) (M.left state.now) (M.right state.now) result }
-    ensures counted { C.counted steps.new ≤ C.counted steps.old + exponent
-        + min (length (M.left state.now) / 2 ^ exponent) (place_of result / 2 ^ exponent + 1) }
-{
-    let sought = RightElement {
-        op,
-        element: &state.b_slice()[0],
-    };
-    search_near(state.a_slice(), &sought, exponent, steps)
 }
 
 /// A left element that is sought in the right list.

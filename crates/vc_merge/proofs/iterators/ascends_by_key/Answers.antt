@@ -1,4 +1,4 @@
-use Rattle.std.proofs.Common.{◌-◌, get_or, refl, sym, ap, ◌∙◌, is_lt}
+use Rattle.std.proofs.Common.{◌≡◌, false, arith, refl, sym, is_lt}
 use mathlib.Core.Bool.{true≢false}
 use Rattle.std.proofs.lemmas.Cmp.{on_total}
 use Rattle.vc_merge.specs.Yielded.{by_first, keys-ascend}
@@ -10,13 +10,10 @@ returns-then-not-is_lt g c =
     let R = by_first g.K.Ord.cmp in
     let x = c.index-list-at.result in
     let y = c.index-list-at-in-loop-at.result in
-    let compared = ap (λ p. R p y) c.index-list-at.is
-    ∙ ap (λ q. R (get_or c.args.list.now (c.loop-at.at - 1) x) q) c.index-list-at-in-loop-at.is ∙ sym c.cmp.ensures in
-    let lt = ap is_lt compared ∙ sym c.is_lt.ensures ∙ c.if-not-is_lt.true in (
+    let lt : is_lt (R x y) ≡ false = rw (c.index-list-at.is, c.index-list-at-in-loop-at.is)
+    (grind (arith, c.cmp.ensures, c.is_lt.ensures, c.if-not-is_lt.true)) in (
       λ e. absurd (true≢false (sym e)),
-      λ p. absurd (ascends-not (by_first g.K.Ord.cmp) (on_total (λ q. q.0) g.met.K.Ord.total)
-          c.args.list.now c.loop-at.at c.index-list-at.result c.index-list-at-in-loop-at.result c.loop-at.auto.at
-          c.loop-at-test.true
+      λ p. absurd (ascends-not R (on_total (λ q. q.0) g.met.K.Ord.total) _ _ x y c.loop-at.auto.at c.loop-at-test.true
           c.index-list-at.is c.index-list-at-in-loop-at.is lt (pairs-ascend g.K.Ord.cmp c.args.list.now p)),
     )
 

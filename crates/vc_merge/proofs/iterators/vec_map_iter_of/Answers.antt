@@ -1,7 +1,6 @@
-use Rattle.std.proofs.Common.{ap, sym, subst}
+use Rattle.std.proofs.Common.{ap, sym}
 use Rattle.std.specs.Iterator.Runs.{ItemsMapTo}
 use Rattle.std.specs.Slice.Iter.{iter_rest, iter_steps}
-use Rattle.vc_merge.specs.Ascending.{Ascends}
 use Rattle.vc_merge.specs.Yielded.{by_first, list-along}
 use Rattle.vc_merge.proofs.ListLemmas.{pairs-ascend}
 use Rattle.vc_merge.proofs.Running.{inside-every}
@@ -10,8 +9,7 @@ use Rattle.vc_merge.proofs.iterators.vec_map_iter_of.Goals as goal
 pub vec_map_iter-requires : goal.vec_map_iter-requires
 vec_map_iter-requires g c =
     list-along iter_steps (λ x. x.now) iter_rest (λ s x t h. h) (by_first g.K.Ord.cmp) (λ s t h. ap iter_rest (sym h.1))
-    c.iter.result
-    (subst (λ l. Ascends (by_first g.K.Ord.cmp) l) (sym c.iter.ensures.rest) (pairs-ascend g.K.Ord.cmp c.args.list.now c.requires))
+    c.iter.result (rw c.iter.ensures.rest (pairs-ascend g.K.Ord.cmp c.args.list.now c.requires))
 
 pub returns-clause-steps : goal.returns-clause-steps
 returns-clause-steps g c =

@@ -10,10 +10,8 @@ invariant-events g l =
     record {
       ready : g.O.MergeOperation.ready l.op l.state;
       so_far : SoFar (allows left right (g.O.MergeOperation.gives l.op)) (g.O.MergeOperation.order l.op) l.fn.state l.state;
-      some_left : l.taken ≡ 0 → 0 < length (left l.state);
-      some_right : l.taken ≡ 0 → 0 < length (right l.state);
-      within : length (left l.state) + length (right l.state) ≤ length (left l.fn.state) + length (right l.fn.state);
-      shorter : 0 < l.taken → length (left l.state) + length (right l.state) < length (left l.fn.state) + length (right l.fn.state);
+      some : l.taken ≡ 0 → (0 < length (left l.state)) × (0 < length (right l.state));
+      shorter : l.taken + (length (left l.state) + length (right l.state)) ≤ length (left l.fn.state) + length (right l.fn.state);
       counted : g.C.Count.counted l.steps + (length (left l.state) + length (right l.state))
           ≤ g.C.Count.counted l.fn.steps + (length (left l.fn.state) + length (right l.fn.state));
     }

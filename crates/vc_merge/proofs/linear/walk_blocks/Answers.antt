@@ -1,6 +1,6 @@
 use Rattle.std.proofs.Common.{arith}
 use Rattle.std.proofs.lemmas.Result.{err_from_is_err_and}
-use Rattle.vc_merge.proofs.Chains.{so_far-none, so_far-append, then_next-append, then_next-weaker, goes_on-true, goes_on-failed}
+use Rattle.vc_merge.proofs.Chains.{so_far-none, so_far-append, then_next-append, then_next-weaker, goes_on-true, walk-failed}
 use Rattle.vc_merge.proofs.linear.walk_blocks.Goals as goal
 
 pub blocks-2-init : goal.blocks-2-init
@@ -10,7 +10,7 @@ pub returns-in_err-walk_block-clause-goes_on : goal.returns-in_err-walk_block-cl
 returns-in_err-walk_block-clause-goes_on g c =
     let p = err_from_is_err_and c.from_residual.result c.from_residual.ensures.1 in
     let was = c.blocks-2.invariant in
-    goes_on-failed _ _ was.so_far
+    walk-failed _ _ was.so_far
     (then_next-weaker _ _ (λ ls rs h. omega (arith, h, was.counted)) c.in_err-walk_block.ensures.goes_on) p.1
 
 pub returns-then-not-branch-clause-goes_on : goal.returns-then-not-branch-clause-goes_on

@@ -1,4 +1,4 @@
-use Rattle.std.proofs.Common.{◌+◌, ◌≤◌, ◌<◌, length}
+use Rattle.std.proofs.Common.{◌+◌, ◌≤◌, length}
 use Rattle.vc_merge.specs.Chain.{allows}
 use Rattle.vc_merge.specs.Progress.{SoFar}
 use Rattle.vc_merge.proofs.linear.walk_blocks.Given as goal

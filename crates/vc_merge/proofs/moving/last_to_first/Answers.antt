@@ -8,19 +8,13 @@ use Rattle.vc_merge.proofs.moving.last_to_first.Goals as goal
 module _ {X : Type 0} (xs ls ms : List X) (x y : X) (e : ls ≡ xs ++ x ∷ []) (last : y ≡ get_or ls (length xs) y)
     (long : length ms ≡ length ls)
     (moved : (k : ℕ) (d : X) → k < length xs → get_or ms (1 + k) d ≡ get_or ls k d) where
-  longer : length ls ≡ length xs + 1
-  longer = ap length e ∙ length-append xs (x ∷ [])
-
   at-each : (k : ℕ) (d : X) → k < length xs + 1 → get_or (slice_set ms 0 y) k d ≡ get_or (x ∷ xs) k d
-  at-each zero d h = get_or-set_same ms 0 y d (let l = longer in omega arith) ∙ last
-      ∙ ap (λ l. get_or l (length xs) y) e ∙ get_or-append_seam xs x [] y
-  at-each (suc k) d h =
-      get_or-set_other ms 0 (suc k) y d (omega arith) ∙ ap (λ i. get_or ms i d) (omega arith) ∙ moved k d (omega arith)
-      ∙ ap (λ l. get_or l k d) e ∙ get_or_append_left xs (x ∷ []) d k (omega arith)
+  at-each zero d h = grind (arith, get_or-set_same ms 0 y d, get_or-append_seam xs x [] y, length-append xs (x ∷ []))
+  at-each (suc k) d h = grind (arith, get_or-set_other ms 0 (suc k) y d, moved k d, get_or_append_left xs (x ∷ []) d k)
 
   turned : slice_set ms 0 y ≡ x ∷ xs
   turned =
-      let l : length (slice_set ms 0 y) ≡ length xs + 1 = length-set ms 0 y ∙ long ∙ longer in
+      let l : length (slice_set ms 0 y) ≡ length xs + 1 = grind (arith, length-set ms 0 y, length-append xs (x ∷ [])) in
       same_lists _ _ (omega arith) (λ k d h. at-each k d (omega arith))
 
 pub returns-clause-turned : goal.returns-clause-turned
@@ -34,7 +28,6 @@ returns-clause-turned g c xs x e =
     let longer : length row.items ≡ length xs + 1 = ap length e ∙ length-append xs (x ∷ []) in
     let last : c.len-last.result - 1 ≡ length xs = omega arith in
     c.put.ensures.items ∙ turned xs row.items c.move_within.new.self.items x c.take-element.result e
-    (took.value ∙ ap (λ i. get_or row.items i c.take-element.result) last)
+    (rw last at took.value)
     (let p = moved.places.count in let q = took.places.count in omega arith)
-    (λ k d h. moved.moved k d (omega arith) ∙ ap (λ i. get_or c.take-element.new.self.items i d) (omega arith)
-    ∙ ap (λ l. get_or l k d) took.items)
+    (λ k d h. grind (arith, moved.moved k d, took.items))

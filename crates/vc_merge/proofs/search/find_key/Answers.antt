@@ -1,4 +1,5 @@
-use Rattle.vc_merge.proofs.PlaceLemmas.{ordered-ascends, ascends-map}
+use Rattle.vc_merge.proofs.ListLemmas.{ascends-map}
+use Rattle.vc_merge.proofs.PlaceLemmas.{ordered-ascends}
 use Rattle.vc_merge.proofs.search.find_key.Goals as goal
 
 pub look_up-requires : goal.look_up-requires

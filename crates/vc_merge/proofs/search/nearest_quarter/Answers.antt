@@ -4,6 +4,5 @@ use Rattle.vc_merge.proofs.search.nearest_quarter.Goals as goal
 
 pub returns-clause-rest : goal.returns-clause-rest
 returns-clause-rest g c =
-    quarter-rest (g.S.Sought.side c.args.sought.now) c.args.list.now c.requires.ordered
-    (length c.args.list.now / 4) _ c.requires.long refl (omega arith)
-    c.reaches.result c.reaches-2.result c.reaches-3.result c.reaches.ensures c.reaches-2.ensures c.reaches-3.ensures
+    quarter-rest _ _ c.requires.ordered (length c.args.list.now / 4) _ c.reaches.result c.reaches-2.result c.reaches-3.result
+    c.requires.long refl (omega arith) c.reaches.ensures c.reaches-2.ensures c.reaches-3.ensures

@@ -11,6 +11,4 @@ halves-init g c = record {
 
 pub returns-then-part-clause-place : goal.returns-then-part-clause-place
 returns-then-part-clause-place g c =
-    let part = c.halve-part.result in
-    place-searched (g.S.Sought.side c.args.sought.now) c.args.list.now part.start part.len part.found c.requires
-    c.halve-part.ensures.searched c.if-part.true
+    place-searched _ _ _ _ c.halve-part.result.found c.requires c.halve-part.ensures.searched c.if-part.true

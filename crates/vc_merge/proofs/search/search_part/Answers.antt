@@ -3,6 +3,5 @@ use Rattle.vc_merge.proofs.search.search_part.Goals as goal
 
 pub returns-then-part-clause-place : goal.returns-then-part-clause-place
 returns-then-part-clause-place g c =
-    let part = c.halve_four_times-part.result in
-    place-searched (g.S.Sought.side c.args.sought.now) c.args.list.now part.start part.len part.found
-    c.requires.ordered c.halve_four_times-part.ensures.searched c.if-part.true
+    place-searched _ _ _ _ c.halve_four_times-part.result.found c.requires.ordered c.halve_four_times-part.ensures.searched
+    c.if-part.true

@@ -1,21 +1,18 @@
-use Rattle.std.proofs.Common.{◌≤◌, ◌-◌, refl, ◌∙◌, ap, drop, take, arith}
+use Rattle.std.proofs.Common.{◌≤◌, ◌-◌, refl, arith}
 use Rattle.std.proofs.lemmas.List.{take-set-le, drop-set-lt, drop-set}
-use Rattle.vc_merge.proofs.Shifting.{part-at_most, first-of, first-over}
+use Rattle.vc_merge.proofs.Shifting.{part-at_most}
 use Rattle.vc_merge.proofs.parts.PartsState.replace_left.Goals as goal
 
-pub returns-clause-first : goal.returns-clause-first
-returns-clause-first g c =
-    let s = c.args.self.now in
-    first-of (s.end - s.start) _ _ _ c.replace_at.ensures.old (part-at_most s.list.now s.start s.end 1 c.requires)
-
-pub returns-clause-others : goal.returns-clause-others
-returns-clause-others g c =
-    let s = c.args.self.now in
-    let some : 1 ≤ s.end - s.start = part-at_most s.list.now s.start s.end 1 c.requires in
+pub returns : goal.returns
+returns g c =
+    let s = c.args.self.now in let xs = s.list.now in let x = c.args.value in let put = c.replace_at.ensures.new in
+    let old = c.replace_at.ensures.old in let some : 1 ≤ s.end - s.start = part-at_most xs s.start s.end 1 c.requires in
     record {
-      name = refl;
-      built = ap (take s.built) c.replace_at.ensures.new ∙ take-set-le s.built s.list.now s.start _ s.hole;
-      left = first-over (s.end - s.start) _ _ _ _ _ c.replace_at.ensures.old
-          (ap (drop s.start) c.replace_at.ensures.new ∙ drop-set s.list.now s.start _ (omega arith)) some;
-      right = ap (drop s.next) c.replace_at.ensures.new ∙ drop-set-lt s.next s.list.now s.start _ (omega arith);
+      first = grind arith;
+      others = record {
+        name = refl;
+        built = grind (arith, put, take-set-le s.built xs s.start x s.hole);
+        left = grind (arith, put, drop-set xs s.start x);
+        right = grind (arith, put, drop-set-lt s.next xs s.start x);
+      };
     }

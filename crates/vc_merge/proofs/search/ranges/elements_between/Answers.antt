@@ -9,7 +9,6 @@ between-requires g c = λ s. ordered-ascends g.T.Ord.cmp g.met.T.Ord.total s.0.n
 pub returns : goal.returns
 returns g c = λ told.
     c.between.ensures
-    ∙ range-sought g.T.Ord.cmp g.met.T.Ord.total (λ y. y)
-    (λ s. s.0.now) c.element_bound-start.result c.element_bound-end.result _ _
+    ∙ range-sought _ g.met.T.Ord.total (λ y. y) (λ s. s.0.now) _ _ _ _
     (c.element_bound-start.ensures ∙ c.start_bound.ensures told)
     (c.element_bound-end.ensures ∙ c.end_bound.ensures told) c.args.list.now

@@ -1,8 +1,0 @@
-use Rattle.vc_merge.proofs.Chains.{so_far-none, goes_on-next}
-use Rattle.vc_merge.proofs.searching.pass_lefts.Goals as goal
-
-pub returns-then-n-eq0-clause-goes_on : goal.returns-then-n-eq0-clause-goes_on
-returns-then-n-eq0-clause-goes_on g c = so_far-none _ _ _ c.requires.ascend
-
-pub returns-clause-goes_on : goal.returns-clause-goes_on
-returns-clause-goes_on g c = goes_on-next _ _ _ c.requires.ascend c.pass_left.ensures.next
