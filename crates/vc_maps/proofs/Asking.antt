@@ -1,51 +1,24 @@
 -- The questions of a join of two maps: each is one that the kind of join asks, and may be asked where its parts may.
-use Rattle.std.proofs.Common.{◌≡◌, true, List, Option, Some, Result, IsOk, OnOk}
-use Rattle.std.proofs.Common.{OnErr, arith}
+use Rattle.std.proofs.Common.{◌≡◌, true, List, Option, Result, IsOk, OnOk, OnErr, arith}
 use Rattle.std.specs.declared.cmp.Ordering.{Ordering}
 use Rattle.vc_joins.specs.declared.question.OuterJoinArg.{OuterJoinArg}
 use Rattle.vc_joins.specs.declared.question.JoinKind.{JoinKind}
-use Rattle.vc_joins.specs.Entries.{AscendsByKey, entry_at}
+use Rattle.vc_joins.specs.Entries.{AscendsByKey}
 use Rattle.vc_joins.specs.Join.{IsAsked, IsJoin, IsJoinBy}
-use Rattle.vc_joins.specs.Question.{asks, asked, left_spelling}
+use Rattle.vc_joins.specs.Question.{asks, left_spelling}
 use Rattle.vc_joins.proofs.Functions.{joins-of_functions}
 
 module _ {K V W : Type 0} (cmp : K → K → Ordering) (kind : JoinKind) where
-  asked-asks : (p : Option (K × V)) (q : Option (K × W)) (a : OuterJoinArg K V W) → asked kind left_spelling p q
-      ≡ Some a → asks kind a ≡ true
-  asked-asks p q a e = grind arith
-
-  -- what is asked of two maps, read through slices of these
-  pub asked-of : (xs xs' : List (K × V)) (ys ys' : List (K × W)) (a : OuterJoinArg K V W) → xs' ≡ xs → ys' ≡ ys
-      → IsAsked cmp kind left_spelling xs' ys' a → IsAsked cmp kind left_spelling xs ys a
-  asked-of xs xs' ys ys' a e f h =
-      rw (e, f) at h
-
   -- a question that is asked is one that the kind asks
   pub asked-kind : {xs : List (K × V)} {ys : List (K × W)} (a : OuterJoinArg K V W)
       → IsAsked cmp kind left_spelling xs ys a → asks kind a ≡ true
-  asked-kind {xs} {ys} a h = asked-asks (entry_at cmp xs h.key) (entry_at cmp ys h.key) a h.asks
-
-  -- the same question, in parts that make it
-  pub asked-as : {xs : List (K × V)} {ys : List (K × W)} (a b : OuterJoinArg K V W) → b ≡ a
-      → IsAsked cmp kind left_spelling xs ys a → IsAsked cmp kind left_spelling xs ys b
-  asked-as {xs} {ys} a b e h = rw e h
-
-  module _ {X : Type 0} (May : OuterJoinArg K V W → Option X → Type 0) (Keeps : OuterJoinArg K V W → K → Type 0) where
-    -- a join of the lists behind two slices
-    pub join-of : (xs xs' : List (K × V)) (ys ys' : List (K × W)) (zs : List (K × X)) → xs' ≡ xs → ys' ≡ ys
-        → IsJoin cmp kind left_spelling xs' ys' May Keeps zs → IsJoin cmp kind left_spelling xs ys May Keeps zs
-    join-of xs xs' ys ys' zs e f h =
-        rw (e, f) at h
+  asked-kind a h = grind (arith, h.asks)
 
   -- a join is that by each function that answers as may be answered
   pub functions-join : {X : Type 0} {May : OuterJoinArg K V W → Option X → Type 0} {Keeps : OuterJoinArg K V W → K → Type 0}
       {xs : List (K × V)} {ys : List (K × W)} {zs : List (K × X)} → IsJoin cmp kind left_spelling xs ys May Keeps zs
       → (h : OuterJoinArg K V W → Option X) → IsJoinBy cmp kind left_spelling xs ys May h zs
   functions-join {X} {May} {Keeps} {xs} {ys} {zs} = joins-of_functions cmp May Keeps kind left_spelling xs ys zs
-
--- what follows where a call is not refused
-pub on-ok : {X E : Type 0} (result : Result X E) {P Q : Type 0} → (P → Q) → OnOk result P → OnOk result Q
-on-ok result f p = grind arith
 
 -- what holds where a call is not refused, if it never is
 pub at-ok : {X E : Type 0} (result : Result X E) {P : Type 0} → IsOk result → OnOk result P → P

@@ -31,9 +31,8 @@ taken-of_vec s [] t y = ap into_iter_items y
 taken-of_vec s (x ∷ xs) t y = y.1.0 ∙ ap (λ l. x ∷ l) (taken-of_vec y.0 xs t y.2)
 
 -- one of which more than n items came is longer
-pub vec-gives_more : {X A : Type 0} (n : ℕ) (s : IntoIter X A) → GivesMoreThan into_iter_steps n s → n < length (into_iter_items s)
+pub vec-gives_more : {X A : Type 0} (n : ℕ) (s : IntoIter X A) → GivesMoreThan into_iter_steps n s
+    → n < length (into_iter_items s)
 vec-gives_more n s h =
-    let rest = h.3 in
-    let all : length (into_iter_items s) ≡ length (h.0 ++ into_iter_items rest.0) = ap length (taken-of_vec s h.0 rest.0 rest.1) in
-    let tail : length (into_iter_items rest.0) ≡ length (h.1 ∷ into_iter_items h.2) = ap length rest.2.0 in
-    omega (arith, all, tail, length-append h.0 (into_iter_items rest.0), h.4)
+    let rest = h.3 in let more = length-append h.0 (into_iter_items rest.0) in
+    omega (arith, ap length (taken-of_vec s h.0 rest.0 rest.1), ap length rest.2.0, more, h.4)

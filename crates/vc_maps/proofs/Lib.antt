@@ -4,7 +4,6 @@ pub mod Bound
 pub mod ByForm
 pub mod Combined
 pub mod Editing
-pub mod Heads
 pub mod Joined
 pub mod Kept
 pub mod Lending

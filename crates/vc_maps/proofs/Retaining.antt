@@ -1,16 +1,15 @@
 -- What a test leaves of a map, key by key, and clones of its pairs.
-use Rattle.std.proofs.Common.{arith, ◌≡◌, Bool, true, false, List, [], ◌∷◌, refl}
+use Rattle.std.proofs.Common.{◌≡◌, Bool, true, false, List, [], ◌∷◌}
 use Rattle.std.specs.Cmp.{IsTotalOrder}
 use Rattle.std.specs.List.{AllZip, items_where_true}
 use Rattle.std.specs.List.Retain.{IsFiltered}
 use Rattle.std.specs.Map.{keys_of}
 use Rattle.std.specs.declared.cmp.Ordering.{Ordering}
 use Rattle.std.proofs.lemmas.Cmp.{on_total}
-use Rattle.vc_merge.specs.Ascending.{element_at}
 use Rattle.vc_merge.specs.Yielded.{by_first, keys-ascend}
 use Rattle.vc_merge.proofs.ListLemmas.{pairs-ascend}
 use Rattle.vc_joins.specs.Entries.{AscendsByKey, entry_at}
-use Rattle.vc_sets.proofs.Searching.{equal-turned}
+use Rattle.vc_maps.proofs.ByForm.{entry-element}
 use Rattle.vc_merge.specs.Retaining.{IsRetained}
 use Rattle.vc_merge.proofs.Chosen.{ascends-chosen}
 use Rattle.vc_merge.proofs.Retained.{asked}
@@ -22,18 +21,12 @@ none-left (true ∷ bs) ys e = e
 none-left (false ∷ bs) ys e = e
 
 module _ {K V : Type 0} (cmp : K → K → Ordering) (total : IsTotalOrder cmp) where
-  -- the pair at a key, as an element that is equal by its key
-  entry-element : (es : List (K × V)) (k : K) (v : V) → entry_at cmp es k ≡ element_at (by_first cmp) es (k, v)
-  entry-element [] k v = refl
-  entry-element (e ∷ es) k v =
-      grind (arith, equal-turned cmp total k e.0, entry-element es k v)
-
   module _ {F : Type 0} (calls : F → K × V → Bool → F → Type 0) where
     pub entries-asked : (f : F) (xs ys : List (K × V)) → AscendsByKey cmp xs → IsFiltered calls f xs ys → (k : K)
         → IsRetained calls (entry_at cmp xs k) (entry_at cmp ys k)
     entries-asked f [] ys p h k = rw (none-left h.0 ys h.4)
     entries-asked f (x ∷ xs) ys p h k =
-        rw (entry-element (x ∷ xs) k x.1, entry-element ys k x.1)
+        rw (entry-element total (x ∷ xs) k, entry-element total ys k)
         (asked (by_first cmp) (on_total (λ p. p.0) total) calls f (x ∷ xs) ys (pairs-ascend cmp (x ∷ xs) p) h (k, x.1))
 
   pub chosen-ascends : (bs : List Bool) (xs : List (K × V)) → AscendsByKey cmp xs → AscendsByKey cmp (items_where_true bs xs)

@@ -1,20 +1,16 @@
 -- A list of pairs in any order, sorted by its keys: the first pair with a key is the one at that key.
-use Rattle.std.proofs.Common.{◌≡◌, Bool, cond, List, [], ◌∷◌, Some, refl, sym, ap, ◌∙◌}
+use Rattle.std.proofs.Common.{◌≡◌, Bool, List, refl}
 use Rattle.std.specs.Cmp.{IsTotalOrder}
-use Rattle.std.specs.List.{dedup, find}
+use Rattle.std.specs.List.{dedup}
 use Rattle.std.specs.List.Sorted.{IsStableBy}
 use Rattle.std.specs.Ordering.{is_eq, is_lt}
 use Rattle.std.specs.declared.cmp.Ordering.{Ordering}
 use Rattle.vc_joins.specs.Entries.{entry_at, value_at}
 use Rattle.vc_joins.proofs.Functions.{value-entry}
 use Rattle.vc_merge.proofs.Unordered.{found-unordered}
-use Rattle.vc_sets.proofs.Searching.{equal-turned}
+use Rattle.vc_maps.proofs.ByForm.{entry-element}
 
 module _ {K V : Type 0} (cmp : K → K → Ordering) where
-  entry-found : (es : List (K × V)) (k : K) → entry_at cmp es k ≡ find (λ e. is_eq (cmp k e.0)) es
-  entry-found [] k = refl
-  entry-found (e ∷ es) k = ap (cond (is_eq (cmp k e.0)) (Some e)) (entry-found es k)
-
   -- lists with the same entry have the same value
   pub values-of_entries : (es fs : List (K × V)) (k : K) → entry_at cmp es k ≡ entry_at cmp fs k → value_at cmp es k
       ≡ value_at cmp fs k
@@ -24,7 +20,5 @@ module _ {K V : Type 0} (cmp : K → K → Ordering) where
       → ((x y : K × V) → same x y ≡ is_eq (cmp x.0 y.0)) → (xs ys : List (K × V))
       → IsStableBy (λ x y. is_lt (cmp x.0 y.0)) xs ys → (k : K) → entry_at cmp (dedup same ys) k ≡ entry_at cmp xs k
   entry-unordered total same matches xs ys stable k =
-      entry-found (dedup same ys) k
-      ∙ found-unordered cmp total (λ e. e.0) (λ e. is_eq (cmp k e.0)) k
-      (λ e. equal-turned cmp total k e.0) same matches xs ys stable
-      ∙ sym (entry-found xs k)
+      rw (entry-element total (dedup same ys) k, entry-element total xs k)
+      (found-unordered cmp total (λ e. e.0) (λ e. is_eq (cmp e.0 k)) k (λ e. refl) same matches xs ys stable)

@@ -3,9 +3,9 @@
 --     written-keys, entries-written        the keys, and what is at each key
 --     refilled        a list that was written through a slice of the whole
 use Rattle.std.proofs.Common.{◌≡◌, ℕ, ◌+◌, ◌<◌, Bool, true, false, cond, List, [], ◌∷◌, ◌++◌, length, take, drop, set}
-use Rattle.std.proofs.Common.{get_or, Option, Some, refl, sym, ap, subst, ◌∙◌}
+use Rattle.std.proofs.Common.{get_or, Option, Some, refl, sym, ap, ◌∙◌}
 use Rattle.std.proofs.Math.Seq.{take-append_seam}
-use Rattle.std.proofs.lemmas.List.{take_more_set}
+use Rattle.std.proofs.lemmas.List.{length-set, take_more_set}
 use Rattle.std.specs.BTreeMap.{is_at}
 use Rattle.std.specs.List.{refill}
 use Rattle.std.specs.Map.{keys_of}
@@ -38,23 +38,27 @@ module _ {F K V : Type 0} (writes : F → K → V → V → F → Type 0) where
   written-keys f ps qs last h = absurd h
 
   -- what stands where the key is that of the first pair, or another one
-  head-written : (b : Bool) (p q : K × V) (f g : F) → q.0 ≡ p.0 → writes f p.0 p.1 q.1 g
+  head-written : (b : Bool) (p : K × V) (v : V) (f g : F) → writes f p.0 p.1 v g
       → (found rest : Option (K × V)) → WritesEntry writes found rest
-      → WritesEntry writes (cond b (Some p) found) (cond b (Some q) rest)
-  head-written true p q f g e w found rest h = (f, q.1, g, w, ap (λ k. Some (k, q.1)) e)
-  head-written false p q f g e w found rest h = h
+      → WritesEntry writes (cond b (Some p) found) (cond b (Some (p.0, v)) rest)
+  head-written true p v f g w found rest h = (f, v, g, w, refl)
+  head-written false p v f g w found rest h = h
 
   -- what stands at each key
   pub entries-written : (cmp : K → K → Ordering) (f : F) (ps qs : List (K × V)) (last : F)
       → WritesInTurn writes f ps qs last → (k : K) → WritesEntry writes (entry_at cmp ps k) (entry_at cmp qs k)
   entries-written cmp f [] [] last h k = refl
   entries-written cmp f (p ∷ ps) (q ∷ qs) last h k =
-      subst (λ j. WritesEntry writes (cond (is_at (cmp k) p.0) (Some p) (entry_at cmp ps k))
-      (cond (is_at (cmp k) j) (Some q) (entry_at cmp qs k))) (sym h.2)
-      (head-written (is_at (cmp k) p.0) p q f h.0 h.2 h.1 (entry_at cmp ps k) (entry_at cmp qs k)
+      rw h.2
+      (head-written (is_at (cmp k) p.0) p q.1 f h.0 h.1 (entry_at cmp ps k) (entry_at cmp qs k)
       (entries-written cmp h.0 ps qs last h.3 k))
   entries-written cmp f ps qs last h k = absurd h
 
 -- what was written through a slice of a whole list is that list
 pub refilled : {X : Type 0} (xs ys : List X) → length ys ≡ length xs → refill (length xs) xs ys ≡ ys
 refilled xs ys e = ap (λ n. take n (ys ++ drop (length ys) xs)) (sym e) ∙ take-append_seam ys (drop (length ys) xs)
+
+-- the same, where one element was written
+pub refilled-set : {X : Type 0} {xs slice : List X} (i : ℕ) {x y : X} → slice ≡ xs → x ≡ y
+    → refill (length xs) xs (set slice i x) ≡ set xs i y
+refilled-set {xs = xs} i {y = y} e f = rw (e, f) (refilled xs (set xs i y) (length-set xs i y))

@@ -228,8 +228,8 @@ fn keep_right<K: Drop, V: Drop>(parts: &mut PartsState<'_, (K, V)>, key: K, answ
     }
 }
 
-/// Asks for the first `n` pairs that are left of the left part, in a list whose parts are at
-/// `spans`. Answers where the parts are after that.
+/// Asks for the first `n` pairs that are left of the left part, whose keys only the left map has,
+/// in a list whose parts are at `spans`. Answers where the parts are after that.
 fn lefts_turned<K: Clone + Drop, V: Drop, W, Q: Turn<K, V, W>, A: Allocator + Copy>(
     list: &mut [(K, V)],
     spans: Spans,

@@ -24,9 +24,9 @@ merge-requires-clause-ascend g c =
 pub returns-clause-joins : goal.returns-clause-joins
 returns-clause-joins g c =
     merged-join (λ a r. g.Q.Question.may c.args.question.now a (Ok r)) (ClonedKey g.K.Clone.is_clone) c.args.kind
-    (λ s. g.S.PairList.pairs s.built.now) list_name _ g.met.K.Ord.total
-    (λ a k i h. clone-equal g.K.Ord.cmp g.met.K.Ord.total g.K.Clone.is_clone c.requires.clones _ _ h)
-    (record { from_a = λ s t n r h. h; from_b = λ s t n r h. h; collision = λ s t r h. h }) _ _ _ _ _
+    (λ s. g.S.PairList.pairs s.built.now) list_name _ (λ r. Unit {0})
+    (record { from_a = λ s t n r h. grind (arith, h); from_b = λ s t n r h. grind (arith, h); collision = λ s t r h. (tt, h) })
+    g.met.K.Ord.total (λ a k i h. clone-equal g.K.Ord.cmp g.met.K.Ord.total g.K.Clone.is_clone c.requires.clones _ _ h) _ _ _ _ _
     c.new-state.ensures.a c.new-state.ensures.b
     (rw c.new-state.ensures.same_reference c.requires.empty)
     (λ e. let k = c.new-state.ensures.same_reference in let n = ap (λ r. r.ghost_name) k in grind arith)

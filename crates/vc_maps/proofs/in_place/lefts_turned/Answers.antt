@@ -1,4 +1,4 @@
-use Rattle.std.proofs.Common.{◌≡◌, ◌<◌, length, take, drop, refl, ap, ◌∙◌, arith, drop-drop, length-drop}
+use Rattle.std.proofs.Common.{◌≡◌, length, take, drop, refl, ap, ◌∙◌, arith, drop-drop, length-drop}
 use Rattle.vc_joins.specs.declared.question.OuterJoinArg.TheVariants.{Left}
 use Rattle.vc_joins.specs.Join.{OldKey}
 use Rattle.vc_merge.specs.PartsViews.{left_items}
@@ -9,36 +9,26 @@ use Rattle.vc_maps.proofs.in_place.lefts_turned.Goals as goal
 pub replace_left-key-requires : goal.replace_left-key-requires
 replace_left-key-requires g c =
     let all = left_items c.at-parts.result in
-    omega (
-      arith,
-      ap length {y = drop c.pairs.at all} c.pairs.invariant.left,
-      length-drop c.pairs.at
-          all,
-      ap length c.at-parts.ensures.left,
-      c.requires.within,
-      c.pairs-test,
-    )
+    rw c.pairs.invariant.left (omega (arith, length-drop c.pairs.at all, ap length c.at-parts.ensures.left, c.pairs-test))
 
 pub turn_left-answer-requires : goal.turn_left-answer-requires
 turn_left-answer-requires g c =
     let all = left_items c.at-parts.result in let p = c.replace_left-key.result in
-    let some : c.pairs.at < length all = omega (arith, ap length c.at-parts.ensures.left, c.requires.within, c.pairs-test) in
-    let is = next-is all (left_items c.pairs.parts) c.pairs.at p c.pairs.invariant.left c.replace_left-key.ensures.first some in
+    let is = next-is all (left_items c.pairs.parts) c.pairs.at p c.pairs.invariant.left c.replace_left-key.ensures.first in
     each-next (λ p. g.Q.Turn.takes c.args.question.now (Left p.0 p.1)) all c.args.n c.pairs.at p
-    (rw c.at-parts.ensures.left c.requires.takes) (omega arith) some is
+    (rw c.at-parts.ensures.left c.requires.takes) (omega arith) is.0 is.1
 
 pub pairs-preserved : goal.pairs-preserved
 pairs-preserved g c =
     let all = left_items c.at-parts.result in let i = c.pairs.at in let p = c.replace_left-key.result in
-    let some : i < length all = omega (arith, ap length c.at-parts.ensures.left, c.requires.within, c.pairs-test) in
-    let is = next-is all (left_items c.pairs.parts) i p c.pairs.invariant.left c.replace_left-key.ensures.first some in
+    let is = next-is all (left_items c.pairs.parts) i p c.pairs.invariant.left c.replace_left-key.ensures.first in
     let taken = c.replace_left-key.ensures.others in let kept = c.keep_left.ensures in
     record {
       name = kept.name ∙ taken.name ∙ c.pairs.invariant.name;
       left = kept.left ∙ ap (drop 1) taken.left ∙ ap (drop 1) c.pairs.invariant.left ∙ drop-drop 1 i all;
       right = kept.right ∙ taken.right ∙ c.pairs.invariant.right;
       built = asked-one (λ a r. g.Q.Turn.may c.args.question.now a r) (OldKey g.K.Clone.is_clone)
-          (λ p. Left p.0 p.1) all i p c.turn_left-answer.result _ _ _ some is
+          (λ p. Left p.0 p.1) all i p c.turn_left-answer.result _ _ _ is.0 is.1
           c.pairs.invariant.built c.turn_left-answer.ensures
           (under-key {W = g.row.W.Denot} (OldKey g.K.Clone.is_clone) (Left p.0 p.1) p.0 c.turn_left-answer.result _ _ refl
           (rw taken.built at kept.built));

@@ -12,14 +12,7 @@ replace_right-key-requires g c =
     let rights = right_items c.at-parts.result in let pairs = c.args.pairs.now in
     let keys : HaveKeys g.K.Clone.is_clone pairs (take (length pairs) rights) = rw c.at-parts.ensures.right c.requires.keys in
     let long = zip-within (λ p q. g.K.Clone.is_clone p.0 q.0) pairs (length pairs) rights keys in
-    omega (
-      arith,
-      ap length {y = drop c.pairs.pair-index rights} c.pairs.invariant.right,
-      length-drop
-          c.pairs.pair-index rights,
-      long,
-      c.pairs-test.true,
-    )
+    rw c.pairs.invariant.right (omega (arith, length-drop c.pairs.pair-index rights, long, c.pairs-test.true))
 
 pub pairs-preserved : goal.pairs-preserved
 pairs-preserved g c =

@@ -1,11 +1,11 @@
+use Rattle.std.proofs.Common.{Some, refl}
 use Rattle.vc_merge.specs.PartsViews.{built_items, list_name}
-use Rattle.vc_maps.proofs.Combined.{adds-moved, lefts-added}
+use Rattle.vc_maps.proofs.Combined.{adds-moved}
 use Rattle.vc_maps.proofs.combine.PartsStateTuple2JoinStateAskShared.ask_a.Goals as goal
 
 pub returns-clause-gives : goal.returns-clause-gives
 returns-clause-gives g c =
     let done = c.advance_a.ensures.gives in (
       done.0,
-      adds-moved built_items list_name _ _ c.args.self.now c.advance_a.new.self _
-          (lefts-added (λ v w x. g.F.Fn.post c.args._question.now.combine.now (v, (w, tt)) x) _) done.1,
+      adds-moved built_items list_name _ (λ p. (Some p, (refl, refl), refl)) _ c.args.self.now c.advance_a.new.self _ done.1,
     )

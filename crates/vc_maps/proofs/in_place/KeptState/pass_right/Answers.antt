@@ -1,17 +1,17 @@
-use Rattle.std.proofs.Common.{◌≡◌, ◌<◌, ◌∙◌, ap, drop, arith}
+use Rattle.std.proofs.Common.{◌≡◌, false, ◌∙◌, ap, drop, arith}
 use Rattle.std.proofs.lemmas.List.{take_rest}
+use Rattle.vc_maps.specs.Keeping.{has_keys}
 use Rattle.vc_maps.specs.KeptViews.{key_pairs}
-use Rattle.vc_maps.proofs.Kept.{keys-within, keys-passed, set-true, set-false}
+use Rattle.vc_maps.proofs.Kept.{keys-within, keys-passed}
 use Rattle.vc_maps.proofs.in_place.KeptState.pass_right.Goals as goal
 use Rattle.vc_maps.proofs.in_place.KeptState.pass_right.Goals.{then-this-gt0, else-this-gt0}
 
 pub pass_keys-requires : goal.pass_keys-requires
 pass_keys-requires g c =
-    let s = c.args.self.now in
-    let some : 0 < g.row.KEYS = omega (arith, c.if-this-gt0.true) in (
+    let s = c.args.self.now in (
       omega arith,
       keys-within g.K.Clone.is_clone _ s.right.now (key_pairs s) c.args.n
-          (set-true g.row.KEYS some) c.requires.within c.requires.ready,
+          (grind (arith, c.if-this-gt0.true)) c.requires.within c.requires.ready,
     )
 
 pub returns-clause-ready : goal.returns-clause-ready
@@ -21,6 +21,6 @@ returns-clause-ready g c =
       | then-this-gt0 w ↦ rw w.self-is (keys-passed g.K.Clone.is_clone _ s.right.now _ (key_pairs s) _ n c.requires.ready
           (take_rest w.pass_keys.new.self.right.now n ∙ ap (drop n) w.pass_keys.ensures.right) (λ _. w.pass_keys.ensures.keys))
       | else-this-gt0 w ↦
-          let none : g.row.KEYS ≡ 0 = omega (arith, w.if-this-gt0.false) in
-          rw (w.self-is, set-false g.row.KEYS none) tt
+          let none : has_keys g.row.KEYS ≡ false = grind (arith, w.if-this-gt0.false) in
+          rw (w.self-is, none) tt
     ]

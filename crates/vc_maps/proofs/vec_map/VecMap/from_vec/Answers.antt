@@ -10,10 +10,7 @@ returns-clause-pairs g c =
     run.3 ∙ (rw run.1 at all) ∙ c.into_iter.ensures.rest
 
 pub invariant_of-result : goal.invariant_of-result
-invariant_of-result g c =
-    let run = c.in_ok-pairs.ensures.runs in
-    let all = (c.into_iter.ensures.runs run.0 run.0.seen).4 run.2 in
-    rw (run.3 ∙ (rw run.1 at all) ∙ c.into_iter.ensures.rest) c.requires
+invariant_of-result g c = rw (returns-clause-pairs g c) c.requires
 
 pub returns-in_err-pairs-clause-room : goal.returns-in_err-pairs-clause-room
 returns-in_err-pairs-clause-room g c = λ h.

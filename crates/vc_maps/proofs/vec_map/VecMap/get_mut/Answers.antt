@@ -1,12 +1,12 @@
 use Rattle.std.proofs.Common.{refl, sym}
 use Rattle.vc_maps.proofs.Editing.{gap-value}
-use Rattle.vc_maps.proofs.Lending.{found-at, unwritten, written, written-ascends}
+use Rattle.vc_maps.proofs.Lending.{found-at, unwritten, written}
 use Rattle.vc_maps.proofs.vec_map.VecMap.get_mut.Goals as goal
 
 pub invariant_of-self-lent : goal.invariant_of-self-lent
 invariant_of-self-lent g c w =
     let found = rw c.as_slice.ensures at c.in-Ok.ensures in
-    written-ascends g.met.K.Ord.total (written g.met.K.Ord.total found c.in-Some.ensures.value w) c.self.invariant
+    rw (written g.met.K.Ord.total found c.in-Some.ensures.value w).keys c.self.invariant
 
 pub returns-in-Some : goal.returns-in-Some
 returns-in-Some g c =

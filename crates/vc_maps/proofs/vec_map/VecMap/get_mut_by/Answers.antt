@@ -1,13 +1,13 @@
 use Rattle.std.proofs.Common.{refl, sym, ◌∙◌}
 use Rattle.vc_maps.proofs.ByForm.{gap-value_by, value-equal}
-use Rattle.vc_maps.proofs.WrittenBy.{found-at_form, unwritten-by, written-by, written-by_ascends}
+use Rattle.vc_maps.proofs.WrittenBy.{found-at_form, unwritten-by, written-by}
 use Rattle.vc_maps.proofs.vec_map.VecMap.get_mut_by.Goals as goal
 
 pub invariant_of-self-lent : goal.invariant_of-self-lent
 invariant_of-self-lent g c w =
     let found = rw c.as_slice.ensures at c.in-Ok.ensures in
-    written-by_ascends (g.met.Q.Borrowed.orders_as_equal c.args.sought) g.met.K.Ord.total found c.in-Some.ensures.value w
-    c.self.invariant
+    let equal = g.met.Q.Borrowed.orders_as_equal c.args.sought in
+    rw (written-by equal g.met.K.Ord.total found c.in-Some.ensures.value w).keys c.self.invariant
 
 pub returns-in-Some : goal.returns-in-Some
 returns-in-Some g c =

@@ -23,7 +23,8 @@ returns g c =
     record {
       ascends = rw lost
           (keys-ascend cmp _
-          (IsStrictlySortedBy-dedup {R = by_first cmp} (on_total (λ q. q.0) g.met.K.Ord.total) (λ x y. g.met.K.Ord.matches_eq x.0 y.0) _
+          (IsStrictlySortedBy-dedup {R = by_first cmp} (on_total (λ q. q.0) g.met.K.Ord.total)
+          (λ x y. g.met.K.Ord.matches_eq x.0 y.0) _
           (c.in_ok-sort_by.ensures.sorted (λ x y. is_lt (cmp x.0 y.0)) (ranks_by g.met.K.Ord.total (λ e. e.0))
           (always_returns_same _ _ _ (λ a r f' k. search rules)))));
       entries = λ k. ap (λ l. entry_at cmp l k) lost

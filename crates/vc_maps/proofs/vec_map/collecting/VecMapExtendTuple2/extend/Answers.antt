@@ -1,6 +1,4 @@
-use Rattle.std.proofs.Common.{Result, Ok, Err, IsErr, sym}
-use mathlib.Core.Bool.{true≢false}
-use Rattle.std.specs.Result.{MatchResult}
+use Rattle.std.proofs.Common.{arith}
 use Rattle.vc_maps.specs.Collecting.{IsExtended}
 use Rattle.vc_maps.proofs.Collected.{extended-next}
 use Rattle.vc_maps.proofs.vec_map.collecting.VecMapExtendTuple2.extend.Goals as goal
@@ -15,11 +13,6 @@ loop-pair-preserved-in_ok-_old g c =
     let put = c.in_ok-_old.ensures in
     extended-next g.K.Ord.cmp _ _ _ _ c.in-Some.pair.0 c.in-Some.pair.1 c.loop-pair.invariant put.values put.entries
 
--- what holds at a refusal
-at-err : {A E Q : Type 0} (P : Type 0) (r : Result A E) → IsErr r → Q → MatchResult r (λ _. P) (λ _. Q)
-at-err P (Ok v) h q = absurd (true≢false (sym h))
-at-err P (Err e) h q = q
-
 -- the pair that is refused changes nothing
 pub returns-in_err-_old : goal.returns-in_err-_old
 returns-in_err-_old g c =
@@ -31,6 +24,6 @@ returns-in_err-_old g c =
         c.loop-pair.yielded,
         c.into_iter-pair-iterator.ensures.into_iter_gives,
         kept,
-        at-err _ c.from_residual.result c.from_residual.ensures.0 (c.loop-pair.pair-iterator, c.loop-pair.yielded_by),
+        grind (arith, c.from_residual.ensures.0, c.loop-pair.yielded_by),
       );
     }
