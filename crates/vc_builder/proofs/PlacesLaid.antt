@@ -1,6 +1,6 @@
 -- How parts lie in a row of places, and how a write, a read or a run of the places changes them.
-use Rattle.std.proofs.Common.{◌≡◌, ℕ, suc, ◌+◌, ◌-◌, ◌<◌, List, [], ◌∷◌, ◌++◌, map, length, take, drop, set, get_or}
-use Rattle.std.proofs.Common.{replicate, Option, Some, None, refl, sym, ap, ◌∙◌, arith, length-append, append_assoc, append-nil}
+use Rattle.std.proofs.Common.{◌≡◌, ℕ, ◌+◌, ◌-◌, ◌<◌, List, [], ◌∷◌, ◌++◌, map, length, take, drop, set, get_or}
+use Rattle.std.proofs.Common.{replicate, Option, Some, None, refl, arith, length-append, append_assoc, append-nil}
 use Rattle.std.proofs.Common.{take_at, drop_at, drop-drop, take-add}
 use Rattle.std.proofs.lemmas.List.{get_or_at, length-map, length-replicate, map-append, replicate-append-replicate}
 use Rattle.std.proofs.lemmas.List.{replicate_more, set_at, take-append-drop}
@@ -16,30 +16,24 @@ module _ {X : Type 0} where
   -- the one place, and the row once it is written, which is as long
   pub turned : {cs ds : List (Option X)} {i : ℕ} {c d : Option X} → Turns cs ds i c d
       → (i < length cs) × (get_or cs i None ≡ c) × (set cs i d ≡ ds) × (length cs ≡ length ds)
-  turned {cs} {ds} {i} {c} {d} t = (
-    omega (arith, ap length t.was, length-append t.before (c ∷ t.after), t.at),
-    ap (λ l. get_or l i None) t.was ∙ get_or_at t.before c t.after None i t.at,
-    ap (λ l. set l i d) t.was ∙ set_at t.before c t.after d i t.at ∙ sym t.is,
-    rw (t.was, t.is, length-append, length-append),
-  )
+  turned t = grind (arith, length-append, get_or_at, set_at)
 
   pub length-front : (s : Builder X) → length (front s) ≡ length s.built + s.room
   length-front s = simp (length-append, length-map, length-replicate)
 
   pub length-laid : (s : Builder X) (tail : ℕ) → length (laid s tail) ≡ length s.built + s.room + length s.rest + tail
   unfolding laid
-  length-laid s tail = simp (length-append, length-map, length-replicate) (omega arith)
+  length-laid s tail = grind (arith, length-append, length-map, length-replicate)
 
   pub laid-empty : (room tail n : ℕ) → room + tail ≡ n → laid {X = X} (builder [] [] room) tail ≡ replicate n None
   unfolding laid
-  laid-empty room tail n is = replicate-append-replicate room tail None ∙ ap (λ k. replicate k None) is
+  laid-empty room tail n is = grind (arith, replicate-append-replicate {A = Option X} room tail None)
 
   -- where there is no hole, the first of those that are left lie as built ones
   pub laid-passed : (s : Builder X) (tail n : ℕ) → s.room ≡ 0
       → laid s tail ≡ laid (builder (s.built ++ take n s.rest) (drop n s.rest) 0) tail
   unfolding laid
-  laid-passed s tail n none = ap (λ l. front s ++ (map Some l ++ replicate tail None)) (sym (take-append-drop n s.rest))
-      ∙ rw none (simp (append-nil, map-append, append_assoc))
+  laid-passed s tail n none = grind (arith, take-append-drop n s.rest, append-nil, map-append, append_assoc)
 
   -- where none are left, the built ones lie as those that are left
   pub laid-poured : (s : Builder X) (tail : ℕ) → s.rest ≡ [] → laid s tail ≡ laid (builder [] s.built 0) (s.room + tail)
@@ -51,11 +45,6 @@ module _ {X : Type 0} where
   uncons [] h = absurd (omega arith)
   uncons (x ∷ l) h = (x, refl)
 
-  -- a hole ends with an empty place
-  hole-ends : (xs : List X) (hole : ℕ) (others : List (Option X))
-      → (map Some xs ++ replicate (hole + 1) None) ++ others ≡ (map Some xs ++ replicate hole None) ++ None ∷ others
-  hole-ends xs hole others = rw (← replicate_more {X = Option X} hole None) (simp append_assoc)
-
   module _ (s : Builder X) (tail i : ℕ) where
     -- the places past the hole
     abbrev past : List (Option X)
@@ -65,35 +54,31 @@ module _ {X : Type 0} where
     pub put-built : (x : X) → 0 < s.room → i ≡ length s.built
         → Turns (laid s tail) (laid (builder (s.built ++ x ∷ []) s.rest (s.room - 1)) tail) i None (Some x)
     unfolding laid
-    put-built x some at = let less : s.room ≡ suc (s.room - 1) = omega arith in
-        turns (map Some s.built) (replicate (s.room - 1) None ++ past) (length-map s.built Some ∙ sym at)
-        (ap (λ k. (map Some s.built ++ replicate k None) ++ past) less ∙ simp append_assoc) (simp (map-append, append_assoc))
+    put-built x some at =
+        turns (map Some s.built) (replicate (s.room - 1) None ++ past) (grind (arith, length-map))
+        (grind (arith, append_assoc)) (grind (arith, map-append, append_assoc))
 
     -- a value goes to the end of the hole, and is left
     pub put-rest : (x : X) → i + 1 ≡ length s.built + s.room → 0 < s.room
         → Turns (laid s tail) (laid (builder s.built (x ∷ s.rest) (s.room - 1)) tail) i None (Some x)
     unfolding laid
-    put-rest x at some = let less : s.room ≡ s.room - 1 + 1 = omega arith in let low = builder s.built s.rest (s.room - 1) in
-        turns (front low) past (length-front low ∙ omega arith)
-        (ap (λ k. (map Some s.built ++ replicate k None) ++ past) less ∙ hole-ends s.built (s.room - 1) past) refl
+    put-rest x at some = let low = builder s.built s.rest (s.room - 1) in
+        turns (front low) past (grind (arith, length-front low))
+        (grind (arith, append_assoc, replicate_more {X = Option X} (s.room - 1) None)) refl
 
     -- the first of those that are left goes, and the hole is wider
     pub taken : (x : X) → s.rest ≡ x ∷ drop 1 s.rest → i ≡ length s.built + s.room
         → Turns (laid s tail) (laid (builder s.built (drop 1 s.rest) (s.room + 1)) tail) i (Some x) None
     unfolding laid
     taken x e at = let others = map Some (drop 1 s.rest) ++ replicate tail None in
-        turns (front s) others (length-front s ∙ sym at) (ap (λ l. front s ++ (map Some l ++ replicate tail None)) e)
-        (hole-ends s.built s.room others)
+        turns (front s) others (grind (arith, length-front s)) (grind arith)
+        (grind (arith, append_assoc, replicate_more {X = Option X} s.room None))
 
     module _ (at : i ≡ length s.built + s.room) where
-      -- those that are left lie past the hole
-      rest-at : drop i (laid s tail) ≡ past
-      unfolding laid
-      rest-at = drop_at (front s) past i (length-front s ∙ sym at)
-
       -- they are a run of the places
       pub rest-run : take (length s.rest) (drop i (laid s tail)) ≡ map Some s.rest
-      rest-run = rw rest-at (take_at (map Some s.rest) (replicate tail None) (length s.rest) (length-map s.rest Some))
+      unfolding laid
+      rest-run = rw (drop_at (front s) past i (grind (arith, length-front s))) (grind (arith, take_at, length-map s.rest Some))
 
       -- and may be written over
       pub rest-written : (zs : List X) → take i (laid s tail) ++ (map Some zs ++ drop (i + length s.rest) (laid s tail))
@@ -101,8 +86,8 @@ module _ {X : Type 0} where
       unfolding laid
       rest-written zs = rw (
         ← drop-drop (length s.rest) i (laid s tail),
-        rest-at,
-        take_at (front s) past i (length-front s ∙ sym at),
+        drop_at (front s) past i (grind (arith, length-front s)),
+        take_at (front s) past i (grind (arith, length-front s)),
         drop_at (map Some s.rest) (replicate {A = Option X} tail None) (length s.rest) (length-map s.rest Some),
       )
 
@@ -113,8 +98,7 @@ drop_next i xs = drop-drop 1 i xs
 -- what was taken, with one more
 pub take_next : {X : Type 0} (built xs : List X) (i : ℕ) (x : X) → drop i xs ≡ x ∷ drop 1 (drop i xs)
     → (built ++ take i xs) ++ x ∷ [] ≡ built ++ take (i + 1) xs
-take_next built xs i x e = append_assoc built (take i xs) (x ∷ [])
-    ∙ ap (λ l. built ++ l) (sym (take-add i 1 xs ∙ ap (λ l. take i xs ++ take 1 l) e))
+take_next built xs i x e = grind (arith, append_assoc, take-add i 1 xs)
 
 -- how parts that change lie
 pub ruleset laid_steps = (put-built, put-rest, laid-passed, laid-poured)

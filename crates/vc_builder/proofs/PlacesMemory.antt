@@ -3,6 +3,7 @@
 --   base-goes, number-goes       a base or a number that is dropped at the end owns nothing
 --   mark-told, title-told       the machine value of the mark of `Places` and of a `Deed`, which take no bytes
 --   begun       a walk begins with what the parameters own, the tokens and the precondition
+--   sized       the bytes of a number of elements
 --   opened       the owner of the places is split into the slots of its block and its mark
 --   closed       the slots of its block and its mark make the owner of the places again
 use Rattle.vc_builder.proofs.WalkNames.{◌≡◌, refl, ap, sym, ◌∙◌, List, [], ◌∷◌, ◌++◌, ℕ, Val, vstruct, of_list, Ura, Logic}
@@ -11,6 +12,9 @@ use Rattle.vc_builder.proofs.WalkNames.{RattleType, type_size, El, R, Is, plain,
 use Rattle.vc_builder.proofs.WalkNames.{length, Option, el_x, Item, Goal, Seq, Ptr, block_ptr, in_a_block, fsplit, fjoin}
 use Rattle.vc_builder.proofs.WalkNames.{flt_i, flt_l, rewrite, done}
 use Rattle.vc_builder.proofs.WalkNames.{SProp, Lft, Share, Fml, Sq, ⋆, ftrue, flft, raw, prop, fact, ◌⊛◌, keep, heard, split}
+use Rattle.vc_builder.proofs.WalkNames.{Env, subst, vint, w64, elτ, uncapped, is, bin, size_word}
+use types.Run.{Opd, Rv}
+use mir.Syntax.{Opd as Operand, op2, mul, unsigned, size_of}
 use Rattle.circular_buffer.specs.Ownership.{slots, cells_own}
 use Rattle.vc_builder.specs.Places.{laid}
 use denote.Laws.{Tells}
@@ -70,6 +74,13 @@ module _ (E : El) where
     closed 𝓛 vs b o at fit = qed 𝓛 (‵ (slots (R E) b o all) ∷ ‵ (Mark.own_val (tt, tt) vs) ∷ []) ∵
         flt_i ! (length all * bytes) (2 ^ 63) fit $ fjoin ! $ rewrite ! 0 (λ (p : Ptr). ‵ (cells_own (R E) p all)) (sym at) refl $
         move ! (1 ∷ 0 ∷ []) $ fjoin ! $ done !
+
+module _ (E : El) {M : Type 1} {𝓤 : Ura M} {𝓛 : Logic 𝓤} {K : Type 0} {Γ : List (Item 𝓤)} {Ev : Env 𝓤 𝓛.H} where
+  -- the bytes of a number of elements, as the code multiplies them
+  pub sized : K → {x : Operand} {n : ℕ} → Opd K 𝓛 Γ Ev x (vint w64 n) → n * bytes E < 2 ^ 64
+      → Rv K 𝓛 Γ Ev (op2 (mul unsigned) x (size_of (elτ E))) (vint w64 (n * bytes E))
+  sized t {n = n} p far = let same = uncapped n (bytes E) far in
+      is t (bin t p (size_word t) (record { fits = subst (λ (k : ℕ). k < 2 ^ 64) (sym same) far })) (ap (vint w64) same)
 
 -- `Deed` at elements of E and the allocator Z
 module _ (E : El) (Z : Al) where

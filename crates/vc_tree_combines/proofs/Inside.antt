@@ -1,34 +1,39 @@
 -- A tree that continues after a place, with the children of the other node.
---     beside-right ..        a left tree with right ones
---     beside-left ..        a right tree with left ones
---     Before        the trees before the one that begins as the tree continues may be added
---     Next        that one is next, then
---     After        the others may be added
---     Made        and all is made
-use Rattle.std.proofs.Common.{◌≡◌, ◌+◌, ◌*◌, ◌^◌, ◌≤◌, ◌<◌, ℕ, zero, suc, [], ◌∷◌, ◌++◌, List, Option, None, Some, refl, sym, subst, ◌∙◌, ◌-◌, append-nil, append_assoc}
-use Rattle.std.proofs.Common.{length, length-append, slice_get, drop, arith, ap}
+--     begun        none is done yet
+--     inside-begun, within-begun        the trees before the one that begins as the tree continues, and that one is next, then
+--     inside-ended, within-ended        the others, and all is made
+--     next-left_within, next-right_within, next-agree        the next trees go on
+--     IsPaid, around-paid        what was compared is paid by the trees
+use Rattle.std.proofs.Common.{◌≡◌, ◌+◌, ◌*◌, ◌^◌, ◌≤◌, ◌<◌, ◌-◌, ℕ, zero, suc, [], ◌∷◌, ◌++◌, List, Option, None, Some, refl}
+use Rattle.std.proofs.Common.{length, length-append, get_or, slice_get, drop, arith, ap, append-nil, append_assoc}
+use Rattle.std.proofs.Math.Seq.{drop-append_seam}
 use Rattle.std.proofs.lemmas.Nat.{pow_pos}
 use Rattle.std.specs.Cmp.{IsTotalOrder}
 use Rattle.std.specs.List.{cons_option}
-use Rattle.vc_tree_model.specs.Canonical.{AreChildren}
 use Rattle.std.specs.Option.{option_to_list}
+use Rattle.std.specs.Ordering.{ordering_reverse}
+use Rattle.std.specs.Prelude.{IfSome}
 use Rattle.std.specs.declared.cmp.Ordering.{Ordering}
 use Rattle.vc_merge.specs.Count.{digits}
 use Rattle.vc_merge.proofs.Digits.{digits-least}
+use Rattle.vc_merge.proofs.ListLemmas.{each-weaker}
+use Rattle.vc_tree_model.specs.Canonical.{AreChildren, IsCanonical}
 use Rattle.vc_tree_model.specs.Look.{values}
 use Rattle.vc_tree_model.specs.Shortened.{forest_weight}
 use Rattle.vc_tree_model.specs.Tree.{Tree, forest, forest_nodes}
 use Rattle.vc_tree_nodes.specs.Children.{seen}
+use Rattle.vc_tree_nodes.specs.Parting.{Agree}
 use Rattle.vc_tree_facing.specs.Doing.{IsDoing, IsSaidIn, AreNext}
 use Rattle.vc_tree_facing.specs.Facing.{shortened_in}
+use Rattle.vc_tree_facing.specs.Seeking.{side_at, Stops}
+use Rattle.vc_tree_facing.specs.Sides.{by_component, lower_side, side_next}
+use Rattle.vc_tree_facing.proofs.Leaving.{inner-list}
 use Rattle.vc_tree_facing.proofs.Next.{doing-start, all-done, left_within, right_within, both-agree}
-use Rattle.std.specs.Prelude.{IfSome}
-use Rattle.vc_tree_nodes.specs.Parting.{Agree}
+use Rattle.vc_tree_facing.proofs.Next.{left-next, right-next, both-next}
 use Rattle.vc_tree_facing.proofs.Opening.{few-below}
 use Rattle.vc_tree_combines.specs.Making.{MayAddLefts, MayAddRights, AreLeftAdded, AreRightAdded, AreMadeOf, IsAround}
-use Rattle.vc_tree_combines.proofs.Runs.{left-alone, right-alone, lefts-may, lefts-done, rights-may, rights-done}
-use Rattle.vc_tree_combines.proofs.Runs.{rights-before, next-right, lefts-before, next-left}
-use Rattle.vc_tree_facing.specs.Sides.{by_component}
+use Rattle.vc_tree_combines.proofs.Runs.{left-alone, right-alone, lefts, rights}
+use Rattle.vc_tree_combines.proofs.Testing.{found_in}
 
 -- none is done yet
 pub begun : {K V W U A B : Type 0} (cmp : K → K → Ordering) (ta : A → Tree K V) (tb : B → Tree K W) (i j : ℕ) (xs : List A)
@@ -40,71 +45,83 @@ begun cmp ta tb i j xs ys R asks o none left right asked e = doing-start o none 
 
 -- ---- a left tree beside right ones
 
-module _ {K V W U A B : Type 0} {cmp : K → K → Ordering} {ta : A → Tree K V} {tb : B → Tree K W} {i : ℕ} {a : A} {c : K}
-    (e : slice_get (ta a).prefix i ≡ Some c) {ys before : List B} {found : Option B} {after : List B}
-    (r : IsAround cmp tb c ys before found after) {R : Option V → Option W → Option U → Type 0}
-    {asks : Option V → Option W → Type 0} {made : List (Tree K U)}
-    (d : IsDoing cmp ta tb i 0 (values cmp) R asks (a ∷ []) ys (a ∷ []) ys made) where
-  inside-parted : IsDoing cmp ta tb i 0 (values cmp) R asks (a ∷ []) ys (a ∷ []) (before ++ cons_option found after) made
-  inside-parted = subst (λ zs. IsDoing cmp ta tb i 0 (values cmp) R asks (a ∷ []) ys (a ∷ []) zs made) r.is d
+module _ {K V W U A B : Type 0} {cmp : K → K → Ordering} (o : IsTotalOrder cmp) (ta : A → Tree K V) (tb : B → Tree K W) (i : ℕ)
+    (a : A) (R : Option V → Option W → Option U → Type 0) (asks : Option V → Option W → Type 0) where
+  inside-side : (c : K) → slice_get (ta a).prefix i ≡ Some c → (y : B) {r : Ordering} → side_at cmp tb 0 c y ≡ r
+      → side_next (by_component ta tb i 0 cmp) (Some a) (Some y) ≡ Some (lower_side r)
+  inside-side c e y h = grind arith
 
-  pub inside-before : MayAddRights cmp asks tb before
-  inside-before =
-      rights-may before (cons_option found after) inside-parted (rights-before cmp ta tb i a c e before r.lower)
+  inside-next : (c : K) → slice_get (ta a).prefix i ≡ Some c → (found : Option B) (rs : List B) {xs : List A} {ys : List B}
+      {made : List (Tree K U)} → Stops cmp tb 0 c found rs
+      → IsDoing cmp ta tb i 0 (values cmp) R asks xs ys (a ∷ []) (cons_option found rs) made
+      → AreNext cmp ta tb i 0 (values cmp) R asks xs ys (Some a) found [] rs made
+  inside-next c e None [] s d = left-next d refl refl
+  inside-next c e None (y ∷ rs) s d = left-next d (inside-side c e y s) refl
+  inside-next c e (Some y) rs s d = both-next d (inside-side c e y s) refl refl
 
-  pub inside-next : {made' : List (Tree K U)} → AreRightAdded cmp R tb before made made'
-      → AreNext cmp ta tb i 0 (values cmp) R asks (a ∷ []) ys (Some a) found [] after made'
-  inside-next m =
-      next-right cmp ta tb i a c e found r.stops
-      (rights-done before inside-parted (rights-before cmp ta tb i a c e before r.lower) m)
+  -- the trees before the one that begins as it continues may be added, and then that one is next
+  pub inside-begun : asks None None → {whole : List K} → whole ≡ (ta a).prefix → i < length (ta a).prefix → {c : K}
+      → c ≡ get_or whole i c → IsCanonical cmp (ta a) → {ys : List B} → AreChildren cmp (seen tb ys)
+      → IsSaidIn cmp ta tb i 0 (values cmp) asks (a ∷ []) ys → {made : List (Tree K U)} → made ≡ []
+      → {before : List B} {found : Option B} {after : List B} → IsAround cmp tb c ys before found after
+      → MayAddRights cmp asks tb before × ((made' : List (Tree K U)) → AreRightAdded cmp R tb before made made'
+      → AreNext cmp ta tb i 0 (values cmp) R asks (a ∷ []) ys (Some a) found [] after made')
+  inside-begun none {whole} w h {c} is ca {ys} right asked {made} m {before} {found} {after} r =
+      let e = found_in whole (ta a).prefix i c w (rw w h) is in
+      let d : IsDoing cmp ta tb i 0 (values cmp) R asks (a ∷ []) ys (a ∷ []) (before ++ cons_option found after) made =
+      rw (← r.is) (doing-start o none (inner-list cmp ta a i ca h) right asked m) in
+      let p = rights before d (each-weaker _ _ (λ y k. inside-side c e y k) before r.lower) in
+      (p.0, λ made' k. inside-next c e found after r.stops (p.1 made' k))
 
-module _ {K V W U A B : Type 0} {cmp : K → K → Ordering} {ta : A → Tree K V} {tb : B → Tree K W} {i : ℕ}
+-- the trees that are left may be added, and then all is made
+pub inside-ended : {K V W U A B : Type 0} {cmp : K → K → Ordering} {ta : A → Tree K V} {tb : B → Tree K W} {i : ℕ}
     {R : Option V → Option W → Option U → Type 0} {asks : Option V → Option W → Type 0} {xs : List A} {ys after : List B}
-    {made : List (Tree K U)} (d : IsDoing cmp ta tb i 0 (values cmp) R asks xs ys [] after made) where
-  inside-rest : IsDoing cmp ta tb i 0 (values cmp) R asks xs ys [] (after ++ []) made
-  inside-rest = rw (append-nil after) d
-
-  pub inside-after : MayAddRights cmp asks tb after
-  inside-after = rights-may after [] inside-rest (right-alone (by_component ta tb i 0 cmp) after)
-
-  pub inside-made : (made' : List (Tree K U)) → AreRightAdded cmp R tb after made made' → R None None None
-      → AreMadeOf cmp R (shortened_in ta i xs) (shortened_in tb 0 ys) (forest made')
-  inside-made made' k none =
-      all-done (rights-done after inside-rest (right-alone (by_component ta tb i 0 cmp) after) k) refl none
+    {made : List (Tree K U)} → IsDoing cmp ta tb i 0 (values cmp) R asks xs ys [] after made
+    → MayAddRights cmp asks tb after × ((made' : List (Tree K U)) → AreRightAdded cmp R tb after made made' → R None None None
+    → AreMadeOf cmp R (shortened_in ta i xs) (shortened_in tb 0 ys) (forest made'))
+inside-ended {cmp = cmp} {ta} {tb} {i} {after = after} d =
+    let p = rights after (rw (← append-nil after) at d) (right-alone (by_component ta tb i 0 cmp) after) in
+    (p.0, λ made' k none. all-done (p.1 made' k) refl none)
 
 -- ---- a right tree beside left ones
 
-module _ {K V W U A B : Type 0} {cmp : K → K → Ordering} {ta : A → Tree K V} {tb : B → Tree K W} {j : ℕ} {b : B} {c : K}
-    (e : slice_get (tb b).prefix j ≡ Some c) {xs before : List A} {found : Option A} {after : List A}
-    (r : IsAround cmp ta c xs before found after) {R : Option V → Option W → Option U → Type 0}
-    {asks : Option V → Option W → Type 0} {made : List (Tree K U)}
-    (d : IsDoing cmp ta tb 0 j (values cmp) R asks xs (b ∷ []) xs (b ∷ []) made) where
-  within-parted : IsDoing cmp ta tb 0 j (values cmp) R asks xs (b ∷ []) (before ++ cons_option found after) (b ∷ []) made
-  within-parted = subst (λ zs. IsDoing cmp ta tb 0 j (values cmp) R asks xs (b ∷ []) zs (b ∷ []) made) r.is d
+module _ {K V W U A B : Type 0} {cmp : K → K → Ordering} (o : IsTotalOrder cmp) (ta : A → Tree K V) (tb : B → Tree K W) (j : ℕ)
+    (b : B) (R : Option V → Option W → Option U → Type 0) (asks : Option V → Option W → Type 0) where
+  within-side : (c : K) → slice_get (tb b).prefix j ≡ Some c → (x : A) {r : Ordering} → side_at cmp ta 0 c x ≡ r
+      → side_next (by_component ta tb 0 j cmp) (Some x) (Some b) ≡ Some (lower_side (ordering_reverse r))
+  within-side c e x h = grind (arith, o.antisymm c)
 
-  pub within-before : MayAddLefts cmp asks ta before
-  within-before =
-      lefts-may before (cons_option found after) within-parted (lefts-before d.total ta tb j b c e before r.lower)
+  within-next : (c : K) → slice_get (tb b).prefix j ≡ Some c → (found : Option A) (ls : List A) {xs : List A} {ys : List B}
+      {made : List (Tree K U)} → Stops cmp ta 0 c found ls
+      → IsDoing cmp ta tb 0 j (values cmp) R asks xs ys (cons_option found ls) (b ∷ []) made
+      → AreNext cmp ta tb 0 j (values cmp) R asks xs ys found (Some b) ls [] made
+  within-next c e None [] s d = right-next d refl refl
+  within-next c e None (x ∷ ls) s d = right-next d (within-side c e x s) refl
+  within-next c e (Some x) ls s d = both-next d (within-side c e x s) refl refl
 
-  pub within-next : {made' : List (Tree K U)} → AreLeftAdded cmp R ta before made made'
-      → AreNext cmp ta tb 0 j (values cmp) R asks xs (b ∷ []) found (Some b) after [] made'
-  within-next m =
-      next-left d.total ta tb j b c e found r.stops
-      (lefts-done before within-parted (lefts-before d.total ta tb j b c e before r.lower) m)
+  -- the trees before the one that begins as it continues may be added, and then that one is next
+  pub within-begun : asks None None → {whole : List K} → whole ≡ (tb b).prefix → j < length (tb b).prefix → {c : K}
+      → c ≡ get_or whole j c → IsCanonical cmp (tb b) → {xs : List A} → AreChildren cmp (seen ta xs)
+      → IsSaidIn cmp ta tb 0 j (values cmp) asks xs (b ∷ []) → {made : List (Tree K U)} → made ≡ []
+      → {before : List A} {found : Option A} {after : List A} → IsAround cmp ta c xs before found after
+      → MayAddLefts cmp asks ta before × ((made' : List (Tree K U)) → AreLeftAdded cmp R ta before made made'
+      → AreNext cmp ta tb 0 j (values cmp) R asks xs (b ∷ []) found (Some b) after [] made')
+  within-begun none {whole} w h {c} is cb {xs} left asked {made} m {before} {found} {after} r =
+      let e = found_in whole (tb b).prefix j c w (rw w h) is in
+      let d : IsDoing cmp ta tb 0 j (values cmp) R asks xs (b ∷ []) (before ++ cons_option found after) (b ∷ []) made =
+      rw (← r.is) (doing-start o none left (inner-list cmp tb b j cb h) asked m) in
+      let p = lefts before d (each-weaker _ _ (λ x k. within-side c e x k) before r.lower) in
+      (p.0, λ made' k. within-next c e found after r.stops (p.1 made' k))
 
-module _ {K V W U A B : Type 0} {cmp : K → K → Ordering} {ta : A → Tree K V} {tb : B → Tree K W} {j : ℕ}
+-- the trees that are left may be added, and then all is made
+pub within-ended : {K V W U A B : Type 0} {cmp : K → K → Ordering} {ta : A → Tree K V} {tb : B → Tree K W} {j : ℕ}
     {R : Option V → Option W → Option U → Type 0} {asks : Option V → Option W → Type 0} {xs : List A} {ys : List B}
-    {after : List A} {made : List (Tree K U)} (d : IsDoing cmp ta tb 0 j (values cmp) R asks xs ys after [] made) where
-  within-rest : IsDoing cmp ta tb 0 j (values cmp) R asks xs ys (after ++ []) [] made
-  within-rest = rw (append-nil after) d
-
-  pub within-after : MayAddLefts cmp asks ta after
-  within-after = lefts-may after [] within-rest (left-alone (by_component ta tb 0 j cmp) after)
-
-  pub within-made : (made' : List (Tree K U)) → AreLeftAdded cmp R ta after made made' → R None None None
-      → AreMadeOf cmp R (shortened_in ta 0 xs) (shortened_in tb j ys) (forest made')
-  within-made made' k none =
-      all-done (lefts-done after within-rest (left-alone (by_component ta tb 0 j cmp) after) k) refl none
+    {after : List A} {made : List (Tree K U)} → IsDoing cmp ta tb 0 j (values cmp) R asks xs ys after [] made
+    → MayAddLefts cmp asks ta after × ((made' : List (Tree K U)) → AreLeftAdded cmp R ta after made made' → R None None None
+    → AreMadeOf cmp R (shortened_in ta 0 xs) (shortened_in tb j ys) (forest made'))
+within-ended {cmp = cmp} {ta} {tb} {j} {after = after} d =
+    let p = lefts after (rw (← append-nil after) at d) (left-alone (by_component ta tb 0 j cmp) after) in
+    (p.0, λ made' k none. all-done (p.1 made' k) refl none)
 
 -- ---- the next trees
 
@@ -134,77 +151,41 @@ below-power : (n : ℕ) → n < 2 ^ n
 below-power zero = pow_pos 0
 below-power (suc n) = grind (arith, below-power n)
 
-digits-few : (n : ℕ) → digits n ≤ n
-digits-few n = digits-least n n (below-power n)
-
-drop-front : {X : Type 0} (zs ys : List X) → drop (length zs) (zs ++ ys) ≡ ys
-drop-front [] ys = refl
-drop-front (z ∷ zs) ys = drop-front zs ys
-
 drop-last : {X : Type 0} (zs ys ts : List X) → ts ≡ zs ++ ys → drop (length ts - length ys) ts ≡ ys
 drop-last zs ys ts e =
-    let l = length-append zs ys in
-    let k = ap length e in
-    let n : length ts - length ys ≡ length zs = omega (arith, l, k) in
-    rw (n, e) (drop-front zs ys)
+    let n : length ts - length ys ≡ length zs = omega (arith, ap length e, length-append zs ys) in
+    rw (n, e) (drop-append_seam zs ys)
 
-module _ {T K V : Type 0} (tree : T → Tree K V) (cmp : K → K → Ordering) (c : K) {ts before : List T} {found : Option T}
-    {after : List T} (r : IsAround cmp tree c ts before found after) where
-  weighs-more : (before after : List T) → forest_weight (seen tree before) + forest_weight (seen tree after)
-      ≡ forest_weight (seen tree (before ++ after))
-  weighs-more [] after = omega arith
-  weighs-more (t ∷ ts) after = let h = weighs-more ts after in omega (arith, h)
+module _ {T K V : Type 0} (tree : T → Tree K V) where
+  -- the trees after the one that is found are the last ones; a search is paid by all, and so is what is compared of the tree
+  -- that is found, which has no more nodes
+  pub record IsPaid (ts : List T) (found : Option T) (after : List T) : Type 0 where
+    pub rest : drop (length ts - length after) ts ≡ after
+    pub few : length after ≤ length ts
+    pub searched : digits (length ts) ≤ 3 * forest_weight (seen tree ts)
+    pub paid : digits (length ts) + 3 * forest_weight (shortened_in tree 0 (option_to_list found))
+        ≤ 3 * forest_weight (seen tree ts) + length (option_to_list found)
+    pub fewer : forest_nodes (seen tree (option_to_list found)) ≤ forest_nodes (seen tree ts)
 
-  -- the trees after it are the last ones
-  pub rest-is : drop (length ts - length after) ts ≡ after
-  rest-is = by found r.is
-    where
-      by : (found : Option T) → ts ≡ before ++ cons_option found after → drop (length ts - length after) ts ≡ after
-      by None e = drop-last before after ts e
-      by (Some t) e = drop-last (before ++ (t ∷ [])) after ts (e ∙ sym (append_assoc before (t ∷ []) after))
+  sums : (before after : List T)
+      → (forest_weight (seen tree (before ++ after)) ≡ forest_weight (seen tree before) + forest_weight (seen tree after))
+      × (forest_nodes (seen tree (before ++ after)) ≡ forest_nodes (seen tree before) + forest_nodes (seen tree after))
+  sums [] after = (omega arith, omega arith)
+  sums (t ∷ ts) after = grind (arith, sums ts after)
 
-  pub rest-few : length after ≤ length ts
-  rest-few = by found r.is
-    where
-      by : (found : Option T) → ts ≡ before ++ cons_option found after → length after ≤ length ts
-      by None e = let l = length-append before after in let k = ap length e in omega (arith, l, k)
-      by (Some t) e = let l = length-append before (t ∷ after) in let k = ap length e in omega (arith, l, k)
-
-  -- a search is paid by all
-  pub search-paid : digits (length ts) ≤ 3 * forest_weight (seen tree ts)
-  search-paid = let d = digits-few (length ts) in let f = few-below tree 0 ts in omega (arith, d, f)
-
-  -- and so is what is compared of the tree that is found
-  pub around-paid : digits (length ts) + 3 * forest_weight (shortened_in tree 0 (option_to_list found))
-      ≤ 3 * forest_weight (seen tree ts) + length (option_to_list found)
-  around-paid = by found r.is
-    where
-      by : (found : Option T) → ts ≡ before ++ cons_option found after
-          → digits (length ts) + 3 * forest_weight (shortened_in tree 0 (option_to_list found))
-          ≤ 3 * forest_weight (seen tree ts) + length (option_to_list found)
-      by None e =
-          let d = digits-few (length ts) in
-          let f = few-below tree 0 ts in
-          omega (arith, d, f)
-      by (Some t) e =
-          let d = digits-few (length ts) in
-          let w = weighs-more before (t ∷ after) in
-          let l = length-append before (t ∷ after) in
-          let f = few-below tree 0 before in
-          let g = few-below tree 0 after in
-          let k = ap length e in
-          let m = ap (λ l. forest_weight (seen tree l)) e in
-          omega (arith, d, w, l, f, g, k, m)
-
-  -- the tree that is found has no more nodes
-  pub around-fewer : forest_nodes (seen tree (option_to_list found)) ≤ forest_nodes (seen tree ts)
-  around-fewer = by found r.is
-    where
-      more : (before after : List T) → forest_nodes (seen tree after) ≤ forest_nodes (seen tree (before ++ after))
-      more [] after = omega arith
-      more (t ∷ ts) after = let h = more ts after in omega (arith, h)
-
-      by : (found : Option T) → ts ≡ before ++ cons_option found after
-          → forest_nodes (seen tree (option_to_list found)) ≤ forest_nodes (seen tree ts)
-      by None e = omega arith
-      by (Some t) e = let h = more before (t ∷ after) in let k = ap (λ l. forest_nodes (seen tree l)) e in omega (arith, h, k)
+  pub around-paid : {cmp : K → K → Ordering} {c : K} {ts before : List T} {found : Option T} {after : List T}
+      → IsAround cmp tree c ts before found after → IsPaid ts found after
+  around-paid {ts = ts} {before} {found} {after} r =
+      let l = length-append before (cons_option found after) in
+      let w = sums before (cons_option found after) in
+      let d = digits-least (length ts) (length ts) (below-power (length ts)) in
+      let all = few-below tree 0 ts in
+      let one = few-below tree 0 before in
+      let two = few-below tree 0 after in
+      record {
+        rest = drop-last (before ++ option_to_list found) after ts (grind (arith, r.is, append_assoc));
+        few = grind (arith, r.is, l);
+        searched = omega (arith, d, all);
+        paid = grind (arith, r.is, l, w, d, one, two);
+        fewer = grind (arith, r.is, w);
+      }

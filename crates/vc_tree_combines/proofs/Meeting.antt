@@ -4,24 +4,21 @@
 --     tells-child, tells-in_child        one prefix ends, and the other tree continues in a child
 --     bare-or_missed, childless-met        or in none
 --     tells-nodes        both prefixes end
---     disjoint-told, subset-told        the public words
-use Rattle.std.proofs.Common.{◌≡◌, [], ◌∷◌, ◌++◌, List, Option, None, Some, Bool, true, false, not, ◌⊎◌, inl, arith}
-use Rattle.std.proofs.Common.{inr, refl, sym, ap, subst, ◌∙◌}
+use Rattle.std.proofs.Common.{◌≡◌, [], ◌∷◌, ◌++◌, List, Option, None, Some, Bool, true, false, not, ◌⊎◌, arith}
+use Rattle.std.proofs.Common.{refl, sym, ◌∙◌}
 use Rattle.std.specs.Cmp.{IsTotalOrder, Equal-is, tied_itself}
-use Rattle.std.specs.Option.{option_and_then}
 use Rattle.std.specs.Ordering.{is_eq}
 use Rattle.std.specs.Prelude.{MatchBool}
 use Rattle.std.specs.declared.cmp.Ordering.{Ordering}
 use Rattle.std.specs.declared.cmp.Ordering.TheVariants.{Equal}
-use Rattle.vc_tree_model.specs.Key.{same_key, behind}
-use Rattle.vc_tree_model.specs.KeySets.{ShareKey, AreDisjoint, HasKeysOf, LacksKeyOf}
-use Rattle.vc_tree_model.specs.Tree.{Tree, Forest, bare, grow, node, lacks_both}
+use Rattle.vc_tree_model.specs.Key.{same_key}
+use Rattle.vc_tree_model.specs.Tree.{Tree, Forest, grow, node, lacks_both}
 use Rattle.vc_tree_model.specs.Map.{lookup, lookup_in}
 use Rattle.vc_tree_model.specs.Canonical.{AreChildren, IsSolid, IsWhole}
 use Rattle.vc_tree_model.specs.Under.{prefixed}
 use Rattle.vc_tree_model.proofs.KeyLemmas.{behind-itself, behind-same, same-itself}
 use Rattle.vc_tree_model.proofs.LookupLemmas.{lookup-other, lookup_in-skip, lookup_in-same, lookup-same, first-bound}
-use Rattle.vc_tree_model.proofs.LookupLemmas.{tree-bound, whole-cases, nothing-bound}
+use Rattle.vc_tree_model.proofs.LookupLemmas.{tree-bound, whole-cases}
 use Rattle.vc_tree_model.proofs.UnderLemmas.{lookup-prepended}
 use Rattle.vc_tree_nodes.specs.Places.{IsNoChild, IsFoundChild}
 use Rattle.vc_tree_combines.specs.Meeting.{IsMet, IsMissed, TellsKeys, TellsKeysIn}
@@ -60,11 +57,7 @@ module _ {K V W : Type 0} (shared : Bool) where
     -- with equal prefixes before the keys
     tells-prefixed : (p p' : List K) → same_key cmp p p' ≡ true → (f : List K → Option V) (g : List K → Option W) (answer : Bool)
         → Tells f g answer → Tells (prefixed cmp f p) (prefixed cmp g p') answer
-    tells-prefixed p p' s f g true h = λ k. rw (← behind-same cmp o p p' k s) (by (behind cmp p k))
-      where
-        by : (left : Option (List K)) → IsMet shared (option_and_then f left) (option_and_then g left)
-        by None = tt
-        by (Some rest) = h rest
+    tells-prefixed p p' s f g true h = λ k. grind (arith, behind-same cmp o p p' k s)
     tells-prefixed p p' s f g false h =
         (p ++ h.0, rw (← behind-same cmp o p p' (p ++ h.0) s, behind-itself cmp o p h.0) h.1)
 
@@ -75,9 +68,10 @@ module _ {K V W : Type 0} (shared : Bool) where
     tells-lifted t u p a p' b answer et eu s h =
         tells-where (prefixed cmp (lookup cmp (node a t.value t.children)) p)
         (prefixed cmp (lookup cmp (node b u.value u.children)) p') (lookup cmp t) (lookup cmp u)
-        (λ k. inl (
-          ap (λ r. lookup cmp (node r t.value t.children) k) et ∙ lookup-prepended cmp p (node a t.value t.children) k,
-          ap (λ r. lookup cmp (node r u.value u.children) k) eu ∙ lookup-prepended cmp p' (node b u.value u.children) k,
+        (λ k. grind (
+          arith,
+          lookup-prepended cmp p (node a t.value t.children) k,
+          lookup-prepended cmp p' (node b u.value u.children) k,
         )) answer
         (tells-prefixed p p' s (lookup cmp (node a t.value t.children)) (lookup cmp (node b u.value u.children)) answer h)
 
@@ -86,16 +80,11 @@ module _ {K : Type 0} (cmp : K → K → Ordering) (o : IsTotalOrder cmp) where
   same-first : (x y : K) (s : List K) → cmp x y ≡ Equal → same_key cmp (x ∷ s) (y ∷ s) ≡ true
   same-first x y s h = rw h (same-itself cmp o s)
 
-  -- no component equals two that differ
-  differs : (x y z : K) → is_eq (cmp x y) ≡ false → cmp x z ≡ Equal → is_eq (cmp y z) ≡ false
-  differs x y z d e = grind arith
-
   -- what children have of the keys that begin with a component, one of them has
   in-child : {U : Type 0} (f : Forest K U) (x y : K) (t : Tree K U) (k : List K) → IsFoundChild cmp f x t → cmp x y ≡ Equal
       → lookup_in cmp f (y ∷ k) ≡ lookup cmp t (y ∷ k)
   in-child f x y t k c e =
-      sym (lookup_in-same cmp o f (x ∷ k) (y ∷ k) (same-first x y k e)) ∙ c.same k
-      ∙ lookup-same cmp o t (x ∷ k) (y ∷ k) (same-first x y k e)
+      let s = same-first x y k e in cc (lookup_in-same cmp o f (x ∷ k) (y ∷ k) s, c.same k, lookup-same cmp o t (x ∷ k) (y ∷ k) s)
 
   module _ {V W : Type 0} where
     -- a solid tree, of which the other side has no key
@@ -107,14 +96,9 @@ module _ {K : Type 0} (cmp : K → K → Ordering) (o : IsTotalOrder cmp) where
         (x ∷ (p ++ b.key), rw (b.is, n x (p ++ b.key) (tied_itself o x)) refl)
     alone-apart false x p v f g s c n = each
       where
-        by : (y : K) (k : List K) (b : Bool) → is_eq (cmp x y) ≡ b
-            → IsMet false (lookup cmp (node (x ∷ p) v f) (y ∷ k)) (g (y ∷ k))
-        by y k true e = rw (n y k ((Equal-is (cmp x y)).0 e)) (met-alone W (lookup cmp (node (x ∷ p) v f) (y ∷ k)))
-        by y k false e = rw (lookup-other cmp x y p k v f e) tt
-
         each : (k : List K) → IsMet false (lookup cmp (node (x ∷ p) v f) k) (g k)
         each [] = tt
-        each (y ∷ k) = by y k (is_eq (cmp x y)) refl
+        each (y ∷ k) = grind (arith, n y k, lookup-other cmp x y p k v f)
 
     -- the other side is a tree that begins otherwise
     pub alone-parted : (shared : Bool) (x y : K) (p q : List K) (v : Option V) (w : Option W) (f : Forest K V) (g : Forest K W)
@@ -122,7 +106,7 @@ module _ {K : Type 0} (cmp : K → K → Ordering) (o : IsTotalOrder cmp) where
         → TellsKeys cmp shared (node (x ∷ p) v f) (node (y ∷ q) w g) (not shared)
     alone-parted shared x y p q v w f g s c d =
         alone-apart shared x p v f (lookup cmp (node (y ∷ q) w g)) s c
-        (λ z k e. lookup-other cmp y z q k w g (differs x y z d e))
+        (λ z k e. grind (arith, lookup-other cmp y z q k w g))
 
     -- or a node of whose children none begins so
     pub alone-childless : (shared : Bool) (x : K) (p : List K) (v : Option V) (w : Option W) (f : Forest K V) (g : Forest K W)
@@ -150,13 +134,8 @@ module _ {K : Type 0} (cmp : K → K → Ordering) (o : IsTotalOrder cmp) where
     pub childless-met : (y : K) (q : List K) (v : Option V) (w : Option W) (f : Forest K V) (g : Forest K W)
         → IsNoChild cmp f y → TellsKeys cmp false (node [] v f) (node (y ∷ q) w g) true
     childless-met y q v w f g n [] = met-alone W v
-    childless-met y q v w f g n (z ∷ k) = by (is_eq (cmp y z)) refl
-      where
-        by : (b : Bool) → is_eq (cmp y z) ≡ b
-            → IsMet false (lookup_in cmp f (z ∷ k)) (lookup cmp (node (y ∷ q) w g) (z ∷ k))
-        by true e =
-            rw (sym (lookup_in-same cmp o f (y ∷ k) (z ∷ k) (same-first y z k ((Equal-is (cmp y z)).0 e))) ∙ n k) tt
-        by false e = rw (lookup-other cmp y z q k w g e) (met-alone W (lookup_in cmp f (z ∷ k)))
+    childless-met y q v w f g n (z ∷ k) =
+        grind (arith, lookup_in-same cmp o f (y ∷ k) (z ∷ k), same-first y z k, n k, lookup-other cmp y z q k w g)
 
     -- two children do not both begin as the right tree does
     two-missed : (y : K) (q : List K) (w : Option W) (g : Forest K W) (x z : K) (p r : List K) (v u : Option V)
@@ -164,9 +143,6 @@ module _ {K : Type 0} (cmp : K → K → Ordering) (o : IsTotalOrder cmp) where
         → TellsKeys cmp true (node [] None (grow (x ∷ p) v kids (grow (z ∷ r) u more rest))) (node (y ∷ q) w g) false
     two-missed y q w g x z p r v u kids more rest c = by (is_eq (cmp y x)) refl
       where
-        less : is_eq (cmp x z) ≡ false
-        less = rw (c.2.0) refl
-
         by : (b : Bool) → is_eq (cmp y x) ≡ b
             → TellsKeys cmp true (node [] None (grow (x ∷ p) v kids (grow (z ∷ r) u more rest))) (node (y ∷ q) w g) false
         by false e =
@@ -174,52 +150,23 @@ module _ {K : Type 0} (cmp : K → K → Ordering) (o : IsTotalOrder cmp) where
             (x ∷ b.key, rw (b.is, lookup-other cmp y x q b.key w g e) refl)
         by true e =
             let b = first-bound cmp o (grow (z ∷ r) u more rest) c.3 in
-            let d : is_eq (cmp y z) ≡ false = ap is_eq (o.congr y x z ((Equal-is (cmp y x)).0 e)) ∙ less in (
-              z ∷ b.key,
-              rw (
-                lookup_in-skip cmp x z p b.key v kids (grow (z ∷ r) u more rest) less
-                    ∙ b.is,
-                lookup-other cmp y z q b.key w g d,
-              ) refl,
-            )
+            let skip = lookup_in-skip cmp x z p b.key v kids (grow (z ∷ r) u more rest) in
+            (z ∷ b.key, grind (arith, b.is, c.2.0, skip, lookup-other cmp y z q b.key w g))
 
     solid-missed : (y : K) (q : List K) (w : Option W) (g : Forest K W) (v : Option V) (f : Forest K V) → IsSolid v f
         → AreChildren cmp f → (lacks_both v f ≡ false) × TellsKeys cmp true (node [] v f) (node (y ∷ q) w g) false
     solid-missed y q w g (Some v) f s c = (refl, ([], refl))
-    solid-missed y q w g None bare s c = absurd s
-    solid-missed y q w g None (grow p v kids bare) s c = absurd s
-    solid-missed y q w g None (grow [] v kids (grow r u more rest)) s c = absurd c
-    solid-missed y q w g None (grow (x ∷ p) v kids (grow [] u more rest)) s c = absurd c.3
     solid-missed y q w g None (grow (x ∷ p) v kids (grow (z ∷ r) u more rest)) s c = grind (arith, two-missed)
+    solid-missed y q w g v f s c = grind arith
 
     -- of keys that are to be shared, a tree that is not behind the whole prefix of the right one has some that it has not
     pub bare-or_missed : (y : K) (q p : List K) (w : Option W) (g : Forest K W) (v : Option V) (f : Forest K V) (answer : Bool)
         → IsWhole p v f → AreChildren cmp f → answer ≡ lacks_both v f
         → TellsKeys cmp true (node [] v f) (node (y ∷ q) w g) answer
-    bare-or_missed y q p w g v f answer s c e = by (whole-cases cmp p v f s)
-      where
-        by : IsSolid v f ⊎ ((p ≡ []) × (v ≡ None) × (f ≡ bare)) → TellsKeys cmp true (node [] v f) (node (y ∷ q) w g) answer
-        by (inl h) = let m = solid-missed y q w g v f h c in rw (e ∙ m.0) m.1
-        by (inr h) =
-            rw (e, h.1, h.2) (λ k. subst (λ m. IsMet true m (lookup cmp (node (y ∷ q) w g) k))
-            (sym (nothing-bound cmp [] v f (refl, h.1, h.2) k)) tt)
+    bare-or_missed y q p w g v f answer s c e = grind (arith, whole-cases cmp p v f s, solid-missed y q w g v f)
 
     -- both prefixes end: the values are met, and the children are
     pub tells-nodes : (shared : Bool) (v : Option V) (w : Option W) (f : Forest K V) (g : Forest K W) (below : Bool)
         → IsMet shared v w → TellsKeysIn cmp shared f g below → TellsKeys cmp shared (node [] v f) (node [] w g) below
-    tells-nodes shared v w f g true m h = each
-      where
-        each : (k : List K) → IsMet shared (lookup cmp (node [] v f) k) (lookup cmp (node [] w g) k)
-        each [] = m
-        each (x ∷ k) = h x k
+    tells-nodes shared v w f g true m h = λ k. grind (arith, h)
     tells-nodes shared v w f g false m h = (h.0 ∷ h.1, h.2)
-
--- ---- the public words
-
-module _ {K V W : Type 0} (cmp : K → K → Ordering) (t : Tree K V) (u : Tree K W) where
-  pub disjoint-told : (answer : Bool) → TellsKeys cmp false t u answer
-      → MatchBool answer (AreDisjoint cmp t u) (ShareKey cmp t u)
-  disjoint-told answer h = grind arith
-
-  pub subset-told : (answer : Bool) → TellsKeys cmp true t u answer → MatchBool answer (HasKeysOf cmp u t) (LacksKeyOf cmp u t)
-  subset-told answer h = grind arith

@@ -3,22 +3,20 @@
 --     kept-appended, other-kept_appended        what is made of values that are kept from others
 --     stays-whole, moved-on        a tree that the left side alone has, and one more tree that comes in
 --     fewer-taken, stands-apart_below, children-taken        what is below the places where two trees were taken apart
---     met-taken, finished-both        the node of what is made below both
+--     met-taken, made-alike        the trees beside what they were taken as
 --     met-done        the trees of two lists before the next pair are done
-use Rattle.std.proofs.Common.{◌≡◌, ℕ, suc, ◌+◌, ◌-◌, ◌<◌, ◌≤◌, [], ◌∷◌, ◌++◌, Bool, not, List, Option, None, Some, subst}
+use Rattle.std.proofs.Common.{◌≡◌, ℕ, suc, ◌+◌, ◌-◌, ◌<◌, ◌≤◌, [], ◌∷◌, ◌++◌, Bool, not, List, Option, None, Some}
 use Rattle.std.proofs.Common.{length, map, take, drop, arith}
 use Rattle.std.specs.List.{cons_option}
 use Rattle.std.specs.Prelude.{⊤}
 use Rattle.std.specs.declared.cmp.Ordering.{Ordering}
 use Rattle.vc_tree_model.specs.Canonical.{AreChildren, IsCanonical}
-use Rattle.vc_tree_model.specs.Child.{solid_child}
 use Rattle.vc_tree_model.specs.Look.{values}
 use Rattle.vc_tree_model.specs.Same.{IsAlike}
-use Rattle.vc_tree_model.specs.Tree.{Tree, Forest, nodes, forest_nodes, shortened}
+use Rattle.vc_tree_model.specs.Tree.{Tree, nodes, forest_nodes, shortened}
 use Rattle.vc_tree_model.specs.Value.{IsKept}
 use Rattle.vc_tree_model.proofs.AlikeLemmas.{tree-alike_lookup, tree-alike_canonical}
 use Rattle.vc_tree_model.proofs.Shortening.{shortened-canonical}
-use Rattle.vc_tree_nodes.specs.Parting.{Agree}
 use Rattle.vc_tree_facing.specs.Facing.{IsSplit, Parts, shortened_in}
 use Rattle.vc_tree_facing.specs.Doing.{IsDoing}
 use Rattle.vc_tree_facing.specs.Made.{IsMade, IsBothMade}
@@ -26,7 +24,7 @@ use Rattle.vc_tree_facing.specs.Sides.{by_component}
 use Rattle.vc_tree_facing.proofs.Ending.{below-children}
 use Rattle.vc_tree_facing.proofs.Leaving.{below-fewer}
 use Rattle.vc_tree_edits.specs.Appended.{IsAppendedAt, IsAppending, ComesWhole, AreApartBelow, ended_of, rest_of}
-use Rattle.vc_tree_edits.specs.Taken.{IsMet, IsTaken, IsCombinedBelow, LeftStands, lefts_of, from_of}
+use Rattle.vc_tree_edits.specs.Taken.{IsMet, IsTaken, LeftStands, lefts_of, from_of}
 use Rattle.vc_tree_edits.specs.Woven.{woven, AreAdded, AreWithin, IsNextNoted}
 use Rattle.vc_tree_edits.specs.declared.appending.RightList.{RightList}
 use Rattle.vc_tree_edits.specs.declared.comers.Comer.{Comer}
@@ -34,7 +32,7 @@ use Rattle.vc_tree_edits.specs.declared.engine.Below.{Below}
 use Rattle.vc_tree_edits.specs.declared.engine.Below.TheVariants.{Alone, Children}
 use Rattle.vc_tree_edits.proofs.Changing.{taken-nodes}
 use Rattle.vc_tree_edits.proofs.Coming.{coming-done}
-use Rattle.vc_tree_edits.proofs.Stepping.{both-apart, ended-fewer, made-of}
+use Rattle.vc_tree_edits.proofs.Stepping.{both-apart, ended-fewer}
 
 -- ---- two values
 
@@ -72,7 +70,7 @@ pub moved-on : {B T X : Type 0} (comes : B → T → Type 0) (put : T → X) (n 
     → AreAdded comes put (take (n - (m + 1)) next) old' new → AreAdded comes put (take (n - m) rest) old new
 moved-on comes put n m {next = next} {t = t} old old' h r c k new a =
     let e : n - m ≡ suc (n - (m + 1)) = omega (arith, h) in
-    rw (r, e) (t, c, subst (λ o. AreAdded comes put (take (n - (m + 1)) next) o new) k a)
+    rw (r, e) (t, c, rw k at a)
 
 -- ---- two trees that were taken apart
 
@@ -81,11 +79,8 @@ pub fewer-taken : {K V T : Type 0} {tree : T → Tree K V} {keeps : V → V → 
     {value : Option V} (left : Below T) → LeftStands tree x (i + n) left
     → IsTaken tree keeps (shortened i (tree x)) n front value (lefts_of left) (from_of left)
     → forest_nodes (shortened_in tree (from_of left) (lefts_of left)) + ended_of left ≤ nodes (tree x)
-fewer-taken x i n (Alone z k) s h =
-    let few = below-fewer h.opened in
-    let same = taken-nodes h in
-    omega (arith, few, same)
-fewer-taken x i n (Children zs) s h = let kids = ended-fewer x i n s h in omega (arith, kids)
+fewer-taken x i n (Alone z k) s h = omega (arith, below-fewer h.opened, taken-nodes h)
+fewer-taken x i n (Children zs) s h = omega (arith, ended-fewer x i n s h)
 
 -- where both prefixes continue, they do not continue alike
 pub stands-apart_below : {K V T : Type 0} (cmp : K → K → Ordering) (tree : T → Tree K V) (x y : T) (i j n : ℕ)
@@ -104,35 +99,19 @@ children-taken cmp {tree} {keeps} x i {n} h c =
     below-children cmp n
     (tree-alike_canonical keeps cmp (shortened i (tree x)) h.taken h.alike (shortened-canonical cmp i (tree x) c)) h.opened
 
-module _ {K V T : Type 0} {cmp : K → K → Ordering} {tree : T → Tree K V} {keeps : V → V → Type 0} where
-  -- the left one stands beside what the right one was taken as
-  pub met-taken : (x y : T) {i j n : ℕ} {front : List K} {value : Option V} {ys : List T} {from : ℕ}
-      → IsSplit cmp (tree x) i (tree y) j n → (k : IsTaken tree keeps (shortened j (tree y)) n front value ys from)
-      → IsMet cmp tree (shortened i (tree x)) k.taken n ys from
-  met-taken x y {i} {n = n} s k = record {
-    agree = subst (λ q. Agree cmp (drop i (tree x).prefix) q n) k.alike.0 s.agree;
-    parts = subst (λ q. Parts cmp (drop n (drop i (tree x).prefix)) (drop n q)) k.alike.0 s.parts;
-    right = k.opened;
-  }
+-- the left one stands beside what the right one was taken as
+pub met-taken : {K V T : Type 0} {cmp : K → K → Ordering} {tree : T → Tree K V} {keeps : V → V → Type 0} (x y : T) {i j n : ℕ}
+    {front : List K} {value : Option V} {ys : List T} {from : ℕ} → IsSplit cmp (tree x) i (tree y) j n
+    → (k : IsTaken tree keeps (shortened j (tree y)) n front value ys from)
+    → IsMet cmp tree (shortened i (tree x)) k.taken n ys from
+met-taken x y s k = grind arith
 
-  -- the node of what is made below both is one tree of both
-  pub finished-both : (over : (u v w : V) → keeps u v → keeps v w → keeps u w) (x y : T) {i j n : ℕ}
-      {front other_front : List K} {value other : Option V} (made : Option V) {xs ys : List T} {from other_from : ℕ}
-      → IsSplit cmp (tree x) i (tree y) j n → IsTaken tree keeps (shortened i (tree x)) n front value xs from
-      → IsTaken tree keeps (shortened j (tree y)) n other_front other ys other_from → (right_wins : Bool)
-      → IsAppendedAt keeps right_wins value other made → (kids : Forest K V)
-      → IsCombinedBelow cmp (values cmp) (IsAppendedAt keeps right_wins) (shortened_in tree from xs)
-      (shortened_in tree other_from ys) kids → {out : Option (Tree K V)} → out ≡ solid_child front made kids
-      → IsBothMade cmp (IsAppendedAt keeps right_wins) (shortened i (tree x)) (shortened j (tree y)) out
-  finished-both over x y {value = value} made s h k right_wins said kids below g =
-      let m = met-taken x y s k in
-      let root = subst (λ w. IsAppendedAt keeps right_wins value w made) k.value_is said in
-      made-alike right_wins k.alike
-      (made-of h m s.total tt (kept-appended keeps over right_wins) root (λ v w z a. a) kids below g)
-    where
-      made-alike : (right_wins : Bool) {t u w : Tree K V} {o : Option (Tree K V)} → IsAlike keeps u w
-          → IsBothMade cmp (IsAppendedAt keeps right_wins) t w o → IsBothMade cmp (IsAppendedAt keeps right_wins) t u o
-      made-alike right_wins a b = grind (arith, tree-alike_lookup, other-kept_appended)
+-- what is made of a tree and one that is alike to another, is made of that other one
+pub made-alike : {K V : Type 0} {cmp : K → K → Ordering} {keeps : V → V → Type 0}
+    → ((u v w : V) → keeps u v → keeps v w → keeps u w) → (right_wins : Bool) {t u w : Tree K V} {o : Option (Tree K V)}
+    → IsAlike keeps u w → IsBothMade cmp (IsAppendedAt keeps right_wins) t w o
+    → IsBothMade cmp (IsAppendedAt keeps right_wins) t u o
+made-alike over right_wins a b = grind (arith, tree-alike_lookup, other-kept_appended)
 
 -- ---- a list
 

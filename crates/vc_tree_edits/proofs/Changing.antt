@@ -3,11 +3,10 @@
 --     asked-taken        what may be asked at each key of the tree, may be asked at each key of its parts
 --     taken-nodes        the parts have as many nodes
 --     made-taken        what is made of the parts is what the change says of the tree
-use Rattle.std.proofs.Common.{◌≡◌, ◌∙◌, ◌+◌, ℕ, [], ◌∷◌, List, Option, arith, drop, subst, sym, refl}
+use Rattle.std.proofs.Common.{◌≡◌, ◌+◌, ℕ, List, Option, arith, drop}
 use Rattle.std.proofs.lemmas.List.{drop-drop}
 use Rattle.std.specs.declared.cmp.Ordering.{Ordering}
 use Rattle.vc_tree_model.specs.Value.{IsKept}
-use Rattle.vc_tree_model.specs.Child.{children_at}
 use Rattle.vc_tree_model.specs.Tree.{Tree, nodes, shortened}
 use Rattle.vc_tree_model.specs.Map.{lookup}
 use Rattle.vc_tree_model.proofs.AlikeLemmas.{alike-nodes, tree-alike_lookup}
@@ -20,17 +19,11 @@ use Rattle.vc_tree_edits.specs.Taken.{IsMet, IsTaken}
 pub met-right : {K V W B : Type 0} {cmp : K → K → Ordering} {tb : B → Tree K W} {t : Tree K V} {i : ℕ} (j : ℕ) (u : Tree K W)
     {n : ℕ} {zs : List B} {m : ℕ} → IsSplit cmp t i u j n → IsOpened tb u (drop (j + n) u.prefix) zs m
     → IsMet cmp tb (shortened i t) (shortened j u) n zs m
-met-right {K = K} {tb = tb} j u {n} {zs} {m} s h = record {
+met-right j u {n} s h = record {
   agree = s.agree;
   parts = s.parts;
-  right =
-      subst (λ r. IsOpened tb (shortened j u) r zs m) (sym (drop-drop n j u.prefix))
-      (record { children = h.children ∙ same-at (drop (j + n) u.prefix); smaller = h.smaller; first = h.first });
+  right = rw (drop-drop n j u.prefix) (record { children = grind (arith, h.children); smaller = h.smaller; first = h.first });
 }
-  where
-    same-at : (r : List K) → children_at u r ≡ children_at (shortened j u) r
-    same-at [] = refl
-    same-at (x ∷ r) = refl
 
 -- the parts have as many nodes
 pub taken-nodes : {K V T : Type 0} {tree : T → Tree K V} {keeps : V → V → Type 0} {t : Tree K V} {n : ℕ} {front : List K}

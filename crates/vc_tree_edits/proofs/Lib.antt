@@ -1,4 +1,3 @@
-pub mod Taking
 pub mod Changing
 pub mod Stepping
 pub mod Sifting

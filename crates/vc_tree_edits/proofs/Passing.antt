@@ -5,16 +5,16 @@
 --     end-next        where no right tree is left
 --     only_passes, passes, only-stopped        a merge that does nothing else
 --     place-next, gap-next        where a search for the only tree of the right side stops
---     place-sought, gap-sought        the child that is found by a search
+--     found-parts        the child that is found by a search
 --     all-within, one-within        trees that continue are longer than the place
-use Rattle.std.proofs.Common.{◌≡◌, ℕ, ◌+◌, ◌-◌, ◌<◌, ◌≤◌, [], ◌∷◌, ◌++◌, List, Option, None, Some, Bool, true, false, Result, Ok, Err}
-use Rattle.std.proofs.Common.{◌⊎◌, inl, inr, refl, sym, ap, subst, ◌∙◌, map, take, drop, length, slice_get, append_assoc}
-use Rattle.std.proofs.Common.{append-nil, length-append, length-drop, arith}
+use Rattle.std.proofs.Common.{◌≡◌, ℕ, ◌+◌, ◌-◌, ◌<◌, ◌≤◌, [], ◌∷◌, ◌++◌, List, Option, None, Some, true, false, Result, Ok, Err}
+use Rattle.std.proofs.Common.{◌⊎◌, inl, inr, refl, sym, ap, ◌∙◌, map, take, drop, length, slice_get, append_assoc}
+use Rattle.std.proofs.Common.{append-nil, length-append, arith}
 use Rattle.std.proofs.Common.{zero, suc, get_or}
 use Rattle.std.proofs.Math.ListN.{drop_of_length-le}
 use Rattle.std.proofs.Math.Seq.{take-append_seam, drop-append_seam}
-use Rattle.std.proofs.lemmas.List.{append_cancel_left, take-append-drop, take_all}
-use Rattle.std.proofs.lemmas.Option.{slice_get_within}
+use Rattle.std.proofs.lemmas.List.{append_cancel_left, take-append-drop, take_rest}
+use Rattle.std.proofs.lemmas.Option.{slice_get_within, slice_get_read}
 use Rattle.std.specs.Cmp.{IsTotalOrder, tied_itself}
 use Rattle.std.specs.List.{AllByRecursion, HoldsAt, cons_option}
 use Rattle.std.specs.List.Sorted.{IsStrictlySortedBy}
@@ -31,12 +31,12 @@ use Rattle.vc_merge.specs.Fronts.{LeftBelow, RightBelow, HeadsCompare}
 use Rattle.vc_merge.specs.Place.{IsFound, IsGap}
 use Rattle.vc_merge.specs.Script.{Event, left_alone, right_alone, lefts, rights}
 use Rattle.vc_tree_model.specs.Canonical.{AllAbove, AreChildren}
-use Rattle.vc_tree_model.specs.Tree.{Tree, Forest, grow}
-use Rattle.vc_tree_nodes.specs.Places.{first_side}
+use Rattle.vc_tree_model.specs.Tree.{Tree}
 use Rattle.vc_tree_facing.specs.Facing.{shortened_in}
-use Rattle.vc_tree_facing.specs.Seeking.{side_at, IsSought, Stops as StopsSeeking}
+use Rattle.vc_tree_facing.specs.Seeking.{side_at}
 use Rattle.vc_tree_facing.specs.Sides.{by_component, by_component_total}
 use Rattle.vc_tree_facing.proofs.Components.{get-drop, children-first}
+use Rattle.vc_merge.proofs.ListLemmas.{each-weaker}
 use Rattle.vc_merge.proofs.Runs.{left_below-nil}
 use Rattle.vc_tree_edits.proofs.Placed.{first-at}
 use Rattle.vc_tree_edits.specs.Pairs.{ArePassed, StandsAt, IsNextPair}
@@ -44,20 +44,10 @@ use Rattle.vc_tree_edits.specs.Pairs.{ArePassed, StandsAt, IsNextPair}
 -- ---- canonical children ascend
 
 module _ {K V T : Type 0} (cmp : K → K → Ordering) (tree : T → Tree K V) (n : ℕ) where
-  above-first : (y : K) (p : List K) (v : Option V) (kids rest : Forest K V) → AllAbove cmp y (grow (drop n p) v kids rest)
-      → (option_cmp cmp (Some y) (slice_get p n) ≡ Less) × AllAbove cmp y rest
-  above-first y p v kids rest a = rw (← get-drop n p) (by (drop n p) a)
-    where
-      by : (q : List K) → AllAbove cmp y (grow q v kids rest) → (option_cmp cmp (Some y) (slice_get q 0) ≡ Less) × AllAbove cmp y rest
-      by [] a = absurd a
-      by (z ∷ q) a = a
-
   above-all : (y : K) (xs : List T) → AllAbove cmp y (shortened_in tree n xs)
       → AllByRecursion (λ x. option_cmp cmp (Some y) (slice_get (tree x).prefix n) ≡ Less) xs
   above-all y [] a = tt
-  above-all y (x ∷ xs) a =
-      let r = above-first y (tree x).prefix (tree x).value (tree x).children (shortened_in tree n xs) a in
-      (r.0, above-all y xs r.1)
+  above-all y (x ∷ xs) a = grind (arith, get-drop n (tree x).prefix, above-all y xs)
 
   pub children-ascend : IsTotalOrder cmp → (xs : List T) → AreChildren cmp (shortened_in tree n xs)
       → Ascends (λ x z. option_cmp cmp (slice_get (tree x).prefix n) (slice_get (tree z).prefix n)) xs
@@ -71,43 +61,26 @@ module _ {K V T : Type 0} (cmp : K → K → Ordering) (tree : T → Tree K V) (
 -- ---- what was passed
 
 module _ {A B : Type 0} where
-  pub lefts-run : (xs : List A) (es : List (Event A B)) → lefts (map (λ x. left_alone x) xs ++ es) ≡ xs ++ lefts es
-  lefts-run [] es = refl
-  lefts-run (x ∷ xs) es = ap (λ l. x ∷ l) (lefts-run xs es)
+  pub run-left : (xs : List A) (es : List (Event A B)) → (lefts (map (λ x. left_alone x) xs ++ es) ≡ xs ++ lefts es)
+      × (rights (map (λ x. left_alone x) xs ++ es) ≡ rights es)
+  run-left [] es = (refl, refl)
+  run-left (x ∷ xs) es = grind (arith, run-left xs es)
 
-  pub lefts-skip : (ys : List B) (es : List (Event A B)) → lefts (map (λ y. right_alone y) ys ++ es) ≡ lefts es
-  lefts-skip [] es = refl
-  lefts-skip (y ∷ ys) es = lefts-skip ys es
-
-  pub rights-run : (ys : List B) (es : List (Event A B)) → rights (map (λ y. right_alone y) ys ++ es) ≡ ys ++ rights es
-  rights-run [] es = refl
-  rights-run (y ∷ ys) es = ap (λ l. y ∷ l) (rights-run ys es)
-
-  pub rights-skip : (xs : List A) (es : List (Event A B)) → rights (map (λ x. left_alone x) xs ++ es) ≡ rights es
-  rights-skip [] es = refl
-  rights-skip (x ∷ xs) es = rights-skip xs es
+  pub run-right : (ys : List B) (es : List (Event A B)) → (lefts (map (λ y. right_alone y) ys ++ es) ≡ lefts es)
+      × (rights (map (λ y. right_alone y) ys ++ es) ≡ ys ++ rights es)
+  run-right [] es = (refl, refl)
+  run-right (y ∷ ys) es = grind (arith, run-right ys es)
 
 module _ {A B : Type 0} (order : A ⊎ B → A ⊎ B → Ordering) where
   -- what was passed of a list is its front
-  pub passed-lefts : (runs : List (Run A B)) (ls : List A) (rs : List B) (ls' : List A) (rs' : List B)
-      → ArePassed order runs ls rs ls' rs' → ls ≡ lefts (events runs) ++ ls'
-  passed-lefts [] ls rs ls' rs' p = p.0
-  passed-lefts (of_left xs ∷ runs) ls rs ls' rs' p =
-      p.1 ∙ ap (λ l. xs ++ l) (passed-lefts runs p.0 rs ls' rs' p.3)
-      ∙ sym (ap (λ l. l ++ ls') (lefts-run xs (events runs)) ∙ append_assoc xs (lefts (events runs)) ls')
-  passed-lefts (of_right ys ∷ runs) ls rs ls' rs' p =
-      passed-lefts runs ls p.0 ls' rs' p.3 ∙ sym (ap (λ l. l ++ ls') (lefts-skip ys (events runs)))
-  passed-lefts (of_both x y ∷ runs) ls rs ls' rs' p = absurd p
-
-  pub passed-rights : (runs : List (Run A B)) (ls : List A) (rs : List B) (ls' : List A) (rs' : List B)
-      → ArePassed order runs ls rs ls' rs' → rs ≡ rights (events runs) ++ rs'
-  passed-rights [] ls rs ls' rs' p = p.1
-  passed-rights (of_left xs ∷ runs) ls rs ls' rs' p =
-      passed-rights runs p.0 rs ls' rs' p.3 ∙ sym (ap (λ l. l ++ rs') (rights-skip xs (events runs)))
-  passed-rights (of_right ys ∷ runs) ls rs ls' rs' p =
-      p.1 ∙ ap (λ l. ys ++ l) (passed-rights runs ls p.0 ls' rs' p.3)
-      ∙ sym (ap (λ l. l ++ rs') (rights-run ys (events runs)) ∙ append_assoc ys (rights (events runs)) rs')
-  passed-rights (of_both x y ∷ runs) ls rs ls' rs' p = absurd p
+  pub passed-lists : (runs : List (Run A B)) (ls : List A) (rs : List B) (ls' : List A) (rs' : List B)
+      → ArePassed order runs ls rs ls' rs' → (ls ≡ lefts (events runs) ++ ls') × (rs ≡ rights (events runs) ++ rs')
+  passed-lists [] ls rs ls' rs' p = p
+  passed-lists (of_left xs ∷ runs) ls rs ls' rs' p =
+      grind (arith, passed-lists runs p.0 rs ls' rs' p.3, run-left xs (events runs), append_assoc)
+  passed-lists (of_right ys ∷ runs) ls rs ls' rs' p =
+      grind (arith, passed-lists runs ls p.0 ls' rs' p.3, run-right ys (events runs), append_assoc)
+  passed-lists (of_both x y ∷ runs) ls rs ls' rs' p = absurd p
 
 -- where a walk stops at a pair
 pub on-next : {B Q : Type 0} (o : Option B) {rs rest : List B} → rs ≡ cons_option o rest → ((y : B) → rs ≡ y ∷ rest → Q)
@@ -139,14 +112,6 @@ module _ {M A B : Type 0} (order : A ⊎ B → A ⊎ B → Ordering) (op : Allow
   IsLeft s (of_right ys) t = ⊥
   IsLeft s (of_both x y) t = (t ≡ s) × HeadsCompare order (op.left s) (op.right s) Equal
 
-  front-below : (xs ls : List A) (ks : List A) (rs : List B) → ks ≡ xs ++ ls → LeftBelow order (take (length xs) ks) rs
-      → LeftBelow order xs rs
-  front-below xs ls ks rs e b = subst (λ l. LeftBelow order l rs) (ap (take (length xs)) e ∙ take-append_seam xs ls) b
-
-  front-above : (ys rs : List B) (ks : List B) (ls : List A) → ks ≡ ys ++ rs → RightBelow order (take (length ys) ks) ls
-      → RightBelow order ys ls
-  front-above ys rs ks ls e b = subst (λ l. RightBelow order l ls) (ap (take (length ys)) e ∙ take-append_seam ys rs) b
-
   -- an operation that goes on behind runs of one list alone, and is stopped at a pair
   pub record Passes : Type 0 where
     pub goes_on : (s t : M) (run : Run A B) → IsAllowed op s run (Ok true) t → IsBelow s run
@@ -157,19 +122,13 @@ module _ {M A B : Type 0} (order : A ⊎ B → A ⊎ B → Ordering) (op : Allow
         → ArePassed order runs (op.left s) (op.right s) (op.left t) (op.right t)
     steps-passed s t [] e = (ap op.left e, ap op.right e)
     steps-passed s t (of_left xs ∷ runs) p =
-        let f = p.1.front in (
-          op.left p.0,
-          f.1,
-          front-below xs (op.left p.0) (op.left s) (op.right s) f.1 (passes.goes_on s p.0 (of_left xs) p.1.allowed),
-          subst (λ rs. ArePassed order runs (op.left p.0) rs (op.left t) (op.right t)) (sym f.2) (steps-passed p.0 t runs p.2),
-        )
+        let f = p.1.front in
+        let b = passes.goes_on s p.0 (of_left xs) p.1.allowed in
+        (op.left p.0, f.1, rw (f.1, take-append_seam xs (op.left p.0)) at b, rw f.2 (steps-passed p.0 t runs p.2))
     steps-passed s t (of_right ys ∷ runs) p =
-        let f = p.1.front in (
-          op.right p.0,
-          f.2,
-          front-above ys (op.right p.0) (op.right s) (op.left s) f.2 (passes.goes_on s p.0 (of_right ys) p.1.allowed),
-          subst (λ ls. ArePassed order runs ls (op.right p.0) (op.left t) (op.right t)) (sym f.1) (steps-passed p.0 t runs p.2),
-        )
+        let f = p.1.front in
+        let b = passes.goes_on s p.0 (of_right ys) p.1.allowed in
+        (op.right p.0, f.2, rw (f.2, take-append_seam ys (op.right p.0)) at b, rw f.1 (steps-passed p.0 t runs p.2))
     steps-passed s t (of_both x y ∷ runs) p = absurd (passes.goes_on s p.0 (of_both x y) p.1.allowed)
 
     -- at the end of both lists, or at two that are equal, and P of what is behind these
@@ -185,22 +144,12 @@ module _ {M A B : Type 0} (order : A ⊎ B → A ⊎ B → Ordering) (op : Allow
       pub passed : ArePassed order runs (op.left s) (op.right s) (op.left t) (op.right t)
       pub stands : StopsAt P (op.left t) (op.right t)
 
-    at-pair : (P : List A → List B → Type 0) (ls ls' : List A) (rs rs' : List B) (x : A) (y : B) → ls ≡ x ∷ ls' → rs ≡ y ∷ rs'
-        → HeadsCompare order ls rs Equal → P ls' rs' → StopsAt P ls rs
-    at-pair P ls ls' rs rs' x y e f h p = rw (e, f) (rw (e, f) at h, p)
-
     stopped-by : (P : List A → List B → Type 0) (s t u : M) (runs : List (Run A B)) (run : Run A B) (ls : List A)
         (rs : List B) → Steps op s runs u → IsAtFront (op.left u) (op.right u) run ls rs → IsLeft u run t
         → BehindPair P run ls rs → HasStopped P s t
-    stopped-by P s t u runs (of_left xs) ls rs h f a b = absurd a
-    stopped-by P s t u runs (of_right ys) ls rs h f a b = absurd a
     stopped-by P s t u runs (of_both x y) ls rs h f a b =
-        subst (HasStopped P s) (sym a.0) (record {
-          runs = runs;
-          steps = h;
-          passed = steps-passed s u runs h;
-          stands = at-pair P (op.left u) ls (op.right u) rs x y f.0 f.1 a.1 b;
-        })
+        rw a.0 (record { runs = runs; steps = h; passed = steps-passed s u runs h; stands = grind (arith, f.0, f.1, a.1, b) })
+    stopped-by P s t u runs run ls rs h f a b = absurd a
 
     none-behind : {X : Type 0} (xs ls : List X) → xs ≡ xs ++ ls → ls ≡ []
     none-behind xs ls e = sym (append_cancel_left xs [] ls (append-nil xs ∙ e))
@@ -208,12 +157,9 @@ module _ {M A B : Type 0} (order : A ⊎ B → A ⊎ B → Ordering) (op : Allow
     pub stopped : (P : List A → List B → Type 0) (s t : M) → IsMergedBefore op order P s (Ok tt) t → HasStopped P s t
     stopped P s t (inl f) =
         let p = steps-passed s t f.runs f.steps in
-        let l : op.left t ≡ [] =
-        none-behind (op.left s) (op.left t)
-        (passed-lefts order f.runs _ _ _ _ p ∙ ap (λ l. l ++ op.left t) f.script.left) in
-        let r : op.right t ≡ [] =
-        none-behind (op.right s) (op.right t)
-        (passed-rights order f.runs _ _ _ _ p ∙ ap (λ l. l ++ op.right t) f.script.right) in
+        let k = passed-lists order f.runs _ _ _ _ p in
+        let l = none-behind (op.left s) (op.left t) (rw f.script.left at k.0) in
+        let r = none-behind (op.right s) (op.right t) (rw f.script.right at k.1) in
         record { runs = f.runs; steps = f.steps; passed = p; stands = rw (l, r) tt }
     stopped P s t (inr w) =
         let z = w.stops in
@@ -222,24 +168,18 @@ module _ {M A B : Type 0} (order : A ⊎ B → A ⊎ B → Ordering) (op : Allow
 
     pub front-long : (xs ls ks : List A) → ks ≡ xs ++ ls
         → (length ks - length ls ≤ length ks) × (drop (length ks - length ls) ks ≡ ls)
-    front-long xs ls ks e =
-        let n = ap length e ∙ length-append xs ls in
-        let m : length ks - length ls ≡ length xs = omega (arith, n) in
-        (omega (arith, n), ap (λ k. drop k ks) m ∙ ap (drop (length xs)) e ∙ drop-append_seam xs ls)
+    front-long xs ls ks e = grind (arith, length-append, drop-append_seam xs ls)
 
     pub stands-at : (P : List A → List B → Type 0) (found : Option B) (ls : List A) (rs rest : List B) → rs ≡ cons_option found rest
         → (found ≡ None → rest ≡ []) → StopsAt P ls rs → StandsAt order found ls rest
-    stands-at P None [] rs rest e n h = (refl, n refl)
-    stands-at P None (x ∷ ls) rs rest e n h = absurd (rw (e, n refl) at h)
-    stands-at P (Some y) [] rs rest e n h = absurd (rw e at h)
-    stands-at P (Some y) (x ∷ ls) rs rest e n h = (rw e at h).0
+    stands-at P found ls rs rest e n h = grind arith
 
     -- the next two trees that begin alike, where it has stopped
     abbrev pub stopped-next : (P : List A → List B → Type 0) (s t : M) (h : HasStopped P s t) (found : Option B)
         (rest : List B) → op.right t ≡ cons_option found rest → (found ≡ None → rest ≡ [])
         → IsNextPair order (op.left s) (op.right s) (length (op.left s) - length (op.left t)) found rest
     stopped-next P s t h found rest e n =
-        let k = front-long (lefts (events h.runs)) (op.left t) (op.left s) (passed-lefts order h.runs _ _ _ _ h.passed) in
+        let k = front-long (lefts (events h.runs)) (op.left t) (op.left s) (passed-lists order h.runs _ _ _ _ h.passed).0 in
         record {
           within = k.0;
           runs = h.runs;
@@ -248,9 +188,7 @@ module _ {M A B : Type 0} (order : A ⊎ B → A ⊎ B → Ordering) (op : Allow
         }
 
     pub stopped-fewer : (P : List A → List B → Type 0) (s t : M) → HasStopped P s t → length (op.left t) ≤ length (op.left s)
-    stopped-fewer P s t h =
-        let n = ap length (passed-lefts order h.runs _ _ _ _ h.passed) ∙ length-append (lefts (events h.runs)) (op.left t) in
-        omega (arith, n)
+    stopped-fewer P s t h = grind (arith, passed-lists order h.runs _ _ _ _ h.passed, length-append)
 
     behind : (P : List A → List B → Type 0) (ls : List A) (rs rest : List B) (y : B) → rs ≡ y ∷ rest → StopsAt P ls rs
         → (ls' : List A) × P ls' rest × (length ls ≡ length ls' + 1)
@@ -263,25 +201,24 @@ module _ {M A B : Type 0} (order : A ⊎ B → A ⊎ B → Ordering) (op : Allow
         → (ls : List A) × P ls rest × (length (op.left s) - (length (op.left s) - length (op.left t)) - 1 ≡ length ls)
     stopped-behind P s t h y rest e =
         let b = behind P (op.left t) (op.right t) rest y e h.stands in
-        let n = ap length (passed-lefts order h.runs _ _ _ _ h.passed) ∙ length-append (lefts (events h.runs)) (op.left t) in
-        (b.0, b.1, omega (arith, n, b.2))
-
-pub not-nil : {X : Type 0} (rs : List X) (y : X) (rest : List X) → rs ≡ [] → rs ≡ y ∷ rest → ⊥
-not-nil rs y rest r e = cc
+        (b.0, b.1, omega (arith, stopped-fewer P s t h, b.2))
 
 -- where no right tree is left, the left ones are passed
 module _ {A B : Type 0} (order : A ⊎ B → A ⊎ B → Ordering) (ls : List A) where
+  pub end-stands : (found : Option B) (rest : List B) → [] ≡ cons_option found rest → (found ≡ None → rest ≡ [])
+      → StandsAt order found [] rest
+  end-stands found rest e n = grind arith
+
   abbrev pub end-next : (rs : List B) (found : Option B) (rest : List B) → rs ≡ [] → rs ≡ cons_option found rest
       → (found ≡ None → rest ≡ []) → IsNextPair order ls rs (length ls) found rest
-  end-next rs None rest r e n =
-      let all = drop_of_length-le ls (omega arith) in
+  end-next rs found rest r e n =
+      let all : drop (length ls) ls ≡ [] = drop_of_length-le ls (omega arith) in
       record {
         within = omega arith;
         runs = of_left ls ∷ [];
         passed = ([], sym (append-nil ls), rw r (left_below-nil order ls), (sym all, e));
-        stands = (all, n refl);
+        stands = rw all (end-stands found rest (rw r at e) n);
       }
-  end-next rs (Some y) rest r e n = absurd (not-nil rs y rest r e)
 
 -- one that does nothing else, and is never refused
 module _ {M A B : Type 0} (left : M → List A) (right : M → List B) (order : A ⊎ B → A ⊎ B → Ordering) where
@@ -292,21 +229,8 @@ module _ {M A B : Type 0} (left : M → List A) (right : M → List B) (order : 
     collision = λ s answer t. (answer ≡ Ok false) × (t ≡ s) × HeadsCompare order (left s) (right s) Equal;
   })
 
-  err-ok : {e : AllocError} {b : Bool} → ◌≡◌ {A = Answer} (Err e) (Ok b) → ⊥
-  err-ok e = grind arith
-
   pub passes : Passes order only_passes
-  passes = record { goes_on = goes; stops = stops }
-    where
-      goes : (s t : M) (run : Run A B) → IsAllowed only_passes s run (Ok true) t → IsBelow order only_passes s run
-      goes s t (of_left xs) a = a.1
-      goes s t (of_right ys) a = a.1
-      goes s t (of_both x y) a = true-false a.0
-
-      stops : (s t : M) (run : Run A B) → IsAllowed only_passes s run (Ok false) t → IsLeft order only_passes s run t
-      stops s t (of_left xs) a = true-false (sym a.0)
-      stops s t (of_right ys) a = true-false (sym a.0)
-      stops s t (of_both x y) a = (a.1, a.2)
+  passes = record { goes_on = λ s t run a. grind arith; stops = λ s t run a. grind arith }
 
   pub only-stopped : (P : List A → List B → Type 0) (s t : M) (r : Result (Unit {0}) AllocError)
       → IsMergedBefore only_passes order P s r t → HasStopped order only_passes passes P s t
@@ -314,33 +238,14 @@ module _ {M A B : Type 0} (left : M → List A) (right : M → List B) (order : 
   only-stopped P s t (Err e) w = absurd (refused w.stops.last w.stops.allowed)
     where
       refused : (run : Run A B) → IsAllowed only_passes w.stops.before run (Err e) t → ⊥
-      refused (of_left xs) a = err-ok a.0
-      refused (of_right ys) a = err-ok a.0
-      refused (of_both x y) a = err-ok a.0
+      refused run a = grind arith
 
 -- ---- a search for the only tree of the right side
-
-pub same-some : {X : Type 0} {x y : X} → Some x ≡ Some y → x ≡ y
-same-some e = cc
 
 -- the component that is read at a place
 pub component-at : {K : Type 0} (whole p : List K) (i : ℕ) (c : K) → whole ≡ p → i < length p → c ≡ get_or whole i c
     → slice_get p i ≡ Some c
-component-at {K = K} whole p i c e h r = by p i h (rw e at r)
-  where
-    by : (p : List K) (i : ℕ) → i < length p → c ≡ get_or p i c → slice_get p i ≡ Some c
-    by [] i h r = absurd (omega (arith, h))
-    by (x ∷ p) zero h r = ap Some (sym r)
-    by (x ∷ p) (suc i) h r = by p i (omega (arith, h)) r
-
--- what holds of all holds of the first ones, and of the others
-all-front : {X : Type 0} (P : X → Type 0) (xs ys : List X) → AllByRecursion P (xs ++ ys) → AllByRecursion P xs
-all-front P [] ys a = tt
-all-front P (x ∷ xs) ys a = (a.0, all-front P xs ys a.1)
-
-all-back : {X : Type 0} (P : X → Type 0) (xs ys : List X) → AllByRecursion P (xs ++ ys) → AllByRecursion P ys
-all-back P [] ys a = a
-all-back P (x ∷ xs) ys a = all-back P xs ys a.1
+component-at whole p i c e h r = slice_get_read p _ i c refl h (rw e at r)
 
 -- trees that go on are longer than the place
 pub all-within : {K W B : Type 0} (cmp : K → K → Ordering) → IsTotalOrder cmp → (tb : B → Tree K W) (j : ℕ) (ys : List B)
@@ -354,31 +259,22 @@ all-within cmp o tb j (y ∷ ys) a =
 -- a tree that goes on is longer than the place
 pub one-within : {K W B : Type 0} (cmp : K → K → Ordering) → IsTotalOrder cmp → (tb : B → Tree K W) (j : ℕ) (y : B)
     → AreChildren cmp (shortened_in tb j (y ∷ [])) → j < length (tb y).prefix
-one-within cmp o tb j y a =
-    let f = children-first cmp o j (tb y).prefix {ts = []} a in slice_get_within (tb y).prefix j f.place f.at
+one-within cmp o tb j y a = (all-within cmp o tb j (y ∷ []) a).0
 
 module _ {K V W A B : Type 0} (cmp : K → K → Ordering) (o : IsTotalOrder cmp) (ta : A → Tree K V) (tb : B → Tree K W) (j : ℕ)
     (y : B) (c : K) (e : slice_get (tb y).prefix j ≡ Some c) where
   -- how the trees stand to each other
   by-side : (x : A) → by_component ta tb 0 j cmp (inl x) (inr y) ≡ side_at cmp ta 0 c x
-  by-side x = rw e (by (slice_get (ta x).prefix 0))
-    where
-      by : (p : Option K) → option_cmp cmp p (Some c) ≡ first_side cmp c p
-      by None = refl
-      by (Some z) = refl
+  by-side x = grind arith
 
   pub all-below : (xs : List A) → AllByRecursion (λ x. side_at cmp ta 0 c x ≡ Less) xs
       → LeftBelow (by_component ta tb 0 j cmp) xs (y ∷ [])
-  all-below [] a = tt
-  all-below (x ∷ xs) a = ((by-side x ∙ a.0, tt), all-below xs a.1)
+  all-below xs a = each-weaker _ _ (λ x h. (by-side x ∙ h, tt)) xs a
 
   pub each-above : (xs : List A) → AllByRecursion (λ x. side_at cmp ta 0 c x ≡ Greater) xs
       → AllByRecursion (λ x. by_component ta tb 0 j cmp (inr y) (inl x) ≡ Less) xs
-  each-above [] a = tt
-  each-above (x ∷ xs) a = (
-    (by_component_total ta tb 0 j o).antisymm (inr y) (inl x) ∙ rw (by-side x, a.0) refl,
-    each-above xs a.1,
-  )
+  each-above xs a =
+      each-weaker _ _ (λ x h. grind (arith, (by_component_total ta tb 0 j o).antisymm (inr y) (inl x), by-side x)) xs a
 
   pub heads : (xs : List A) (i : ℕ) → i < length xs → HoldsAt (λ x. side_at cmp ta 0 c x ≡ Equal) xs i
       → HeadsCompare (by_component ta tb 0 j cmp) (drop i xs) (y ∷ []) Equal
@@ -423,42 +319,17 @@ module _ {K V W A B : Type 0} (cmp : K → K → Ordering) (o : IsTotalOrder cmp
 -- the parts of a list around one element
 pub found-parts : {X : Type 0} (xs : List X) (i : ℕ) (x : X) → i < length xs → x ≡ get_or xs i x → (before after : List X)
     → before ≡ take i xs → after ≡ drop (i + 1) xs → xs ≡ before ++ (x ∷ after)
-found-parts xs i x h e before after b a =
-    rw (b, a) (sym (ap (λ l. take i xs ++ l) (sym (first-at xs i x h e)) ∙ take-append-drop i xs))
-
--- a slice to the end
-pub back-slice : {X : Type 0} (n : ℕ) (xs : List X) → take (length xs - n) (drop n xs) ≡ drop n xs
-back-slice n xs = take_all (length xs - n) (drop n xs) (let l = length-drop n xs in omega (arith, l))
+found-parts xs i x h e before after b a = grind (arith, first-at xs i x h e, take-append-drop i xs)
 
 -- what holds of all holds of the first ones, and of a slice to the end
 pub all-take : {X : Type 0} (P : X → Type 0) (n : ℕ) (xs : List X) → AllByRecursion P xs → AllByRecursion P (take n xs)
-all-take P n xs a = all-front P (take n xs) (drop n xs) (rw (take-append-drop n xs) a)
+all-take P (suc n) (x ∷ xs) a = (a.0, all-take P n xs a.1)
+all-take P n xs a = grind arith
+
+all-drop : {X : Type 0} (P : X → Type 0) (n : ℕ) (xs : List X) → AllByRecursion P xs → AllByRecursion P (drop n xs)
+all-drop P (suc n) (x ∷ xs) a = all-drop P n xs a.1
+all-drop P n xs a = grind arith
 
 pub all-rest : {X : Type 0} (P : X → Type 0) (n : ℕ) (xs : List X) → AllByRecursion P xs
     → AllByRecursion P (take (length xs - n) (drop n xs))
-all-rest P n xs a = rw (back-slice n xs) (all-back P (take n xs) (drop n xs) (rw (take-append-drop n xs) a))
-
-module _ {K V T : Type 0} (cmp : K → K → Ordering) (tree : T → Tree K V) (c : K) where
-  -- it is found
-  pub place-sought : (xs : List T) (i : ℕ) (x : T) → IsFound (side_at cmp tree 0 c) xs i → x ≡ get_or xs i x
-      → (after : List T) → after ≡ drop (i + 1) xs → IsSought cmp tree 0 c xs (Some x) after
-  place-sought xs i x f e after h = record {
-    passes = record {
-      passed = take i xs;
-      is = found-parts xs i x f.within e (take i xs) after refl h;
-      lower = f.less;
-    };
-    stops = ap (side_at cmp tree 0 c) e ∙ f.equal x;
-  }
-
-  greater-first : (xs : List T) → AllByRecursion (λ x. side_at cmp tree 0 c x ≡ Greater) xs → StopsSeeking cmp tree 0 c None xs
-  greater-first [] a = tt
-  greater-first (x ∷ xs) a = a.0
-
-  -- or none begins so
-  pub gap-sought : (xs : List T) (i : ℕ) → IsGap (side_at cmp tree 0 c) xs i → (after : List T) → after ≡ drop i xs
-      → IsSought cmp tree 0 c xs None after
-  gap-sought xs i f after h = rw h (record {
-    passes = record { passed = take i xs; is = sym (take-append-drop i xs); lower = f.less };
-    stops = greater-first (drop i xs) f.greater;
-  })
+all-rest P n xs a = rw (take_rest xs n) (all-drop P n xs a)

@@ -2,11 +2,11 @@
 --     first-at, set-at        the tree at a place, and the list with another one there
 --     alone-made        a tree that the left side alone has
 --     two-stored        a node without a value keeps two children, if any
-use Rattle.std.proofs.Common.{◌≡◌, ℕ, suc, ◌+◌, ◌<◌, ◌≤◌, [], ◌∷◌, ◌++◌, List, Option, None, Some, refl, sym, ap}
-use Rattle.std.proofs.Common.{◌∙◌, map, take, drop, set, get_or, length, arith, append-nil, length-append, drop-cons}
-use Rattle.std.proofs.Common.{Bool, true, false, option_map, zero, cond}
+use Rattle.std.proofs.Common.{◌≡◌, ℕ, suc, ◌+◌, ◌<◌, ◌≤◌, [], ◌∷◌, ◌++◌, List, Option, None, Some, refl, ap}
+use Rattle.std.proofs.Common.{map, take, drop, set, get_or, length, arith, append-nil, length-append, drop-cons}
+use Rattle.std.proofs.Common.{Bool, true, option_map, zero, cond}
 use Rattle.std.proofs.Math.ListN.{length-set, drop_of_length-le}
-use Rattle.std.proofs.lemmas.List.{take-set-le, drop-set-lt, drop-set, length-take, take_all}
+use Rattle.std.proofs.lemmas.List.{take-set-le, drop-set-lt, drop-set, take_all}
 use Rattle.std.specs.Cmp.{IsTotalOrder}
 use Rattle.std.specs.List.{cons_option}
 use Rattle.std.specs.Option.{option_to_list}
@@ -28,27 +28,12 @@ set-at xs ys at x h z = grind (arith, take-set-le, drop-set, drop-set-lt, length
 -- there is a tree at a place, and the list has it there
 pub some-at : {A : Type 0} (xs : List A) (at : ℕ) → at < length xs → (x : A) × IsSetAt xs at x xs
 some-at [] at h = absurd (omega (arith, h))
-some-at (x ∷ xs) zero h = (x, record { front = λ n k. refl; here = refl; rest = refl; long = refl })
-some-at (x ∷ xs) (suc at) h =
-    let s = some-at xs at (omega (arith, h)) in
-    let e : suc at + 1 ≡ suc (at + 1) = omega arith in (
-      s.0,
-      record {
-        front = λ n k. refl;
-        here = s.1.here ∙ ap (λ k. s.0 ∷ drop k (x ∷ xs)) (sym e);
-        rest = refl;
-        long = refl;
-      },
-    )
+some-at (x ∷ xs) zero h = (x, grind arith)
+some-at (x ∷ xs) (suc at) h = let s = some-at xs at (omega (arith, h)) in (s.0, grind (arith, s.1.here))
 
 -- two trees, one after the other, at one place
 pub set-again : {A : Type 0} {xs ys zs : List A} {at : ℕ} {x y : A} → IsSetAt xs at x ys → IsSetAt ys at y zs → IsSetAt xs at y zs
-set-again {y = y} a b = record {
-  front = λ n k. b.front n k ∙ a.front n k;
-  here = b.here ∙ ap (λ l. y ∷ l) a.rest;
-  rest = b.rest ∙ a.rest;
-  long = b.long ∙ a.long;
-}
+set-again a b = grind arith
 
 -- a tree that the left side alone has stays or goes
 pub alone-made : {K V O : Type 0} (cmp : K → K → Ordering) → IsTotalOrder cmp → (keeps : V → V → Type 0) → ((v : V) → keeps v v)
@@ -68,12 +53,8 @@ two-stored b o stored many k n e z = grind arith
 -- the only tree of a list, taken out
 pub only-popped : {A : Type 0} (xs ys : List A) (r : Option A) → xs ≡ ys ++ option_to_list r → length xs ≡ 1
     → cons_option r ys ≡ xs
-only-popped xs ys None e n = sym (e ∙ append-nil ys)
-only-popped xs [] (Some x) e n = sym e
-only-popped xs (y ∷ ys) (Some x) e n = grind (arith, append-nil, length-append)
-
-pub first-long : {A : Type 0} (xs : List A) (n : ℕ) → n ≤ length xs → length (take n xs) ≡ n
-first-long xs n h = grind (arith, length-take)
+only-popped xs [] r e n = grind arith
+only-popped xs (y ∷ ys) r e n = grind (arith, append-nil, length-append)
 
 -- as many trees
 pub same-many : {K V A B : Type 0} (t : A → Tree K V) (u : B → Tree K V) (xs : List A) (ys : List B)
@@ -91,5 +72,4 @@ whole-back n xs ys e f = grind (arith, drop_of_length-le, append-nil, take_all)
 -- what was made of a tree and put back is what is left of it
 pub made-back : {A K V : Type 0} (tree : A → Tree K V) (b : Bool) (x : A) (o : Option A) → o ≡ cond b (Some x) None
     → option_map tree o ≡ left_of b 0 (tree x)
-made-back tree true x o e = ap (option_map tree) e
-made-back tree false x o e = ap (option_map tree) e
+made-back tree b x o e = grind arith

@@ -1,7 +1,7 @@
 -- A list into which comers are put at their places.
 --     woven-run        more trees behind the last comer
 --     woven-comer        a comer behind all trees
-use Rattle.std.proofs.Common.{◌≡◌, ℕ, ◌+◌, ◌-◌, ◌≤◌, [], ◌∷◌, ◌++◌, List, refl, sym, take, drop, length, append_assoc}
+use Rattle.std.proofs.Common.{◌≡◌, ℕ, ◌+◌, ◌-◌, ◌≤◌, [], ◌∷◌, ◌++◌, List, refl, drop, length, append_assoc}
 use Rattle.std.proofs.Common.{arith, length-drop}
 use Rattle.std.proofs.lemmas.List.{take-append-le, drop-append-le, take_all}
 use Rattle.std.proofs.Math.ListN.{drop_of_length-le}
@@ -17,27 +17,20 @@ module _ {T : Type 0} where
   within-comer m t [] a = (omega arith, tt)
   within-comer m t (c ∷ cs) a = (a.0, within-comer m t cs a.1)
 
-  rest-long : (n : ℕ) (ks : List T) (m p : ℕ) → p ≡ n + length ks → m ≤ p → p ≡ (n + (m - n)) + length (drop (m - n) ks)
-  rest-long n ks m p e h = let l = length-drop (m - n) ks in omega (arith, l, e, h)
-
   -- more trees behind the last comer
   pub woven-run : (n : ℕ) (ks run : List T) (cs : List (Comer T)) (p : ℕ) → p ≡ n + length ks → AreWithin p cs
       → woven n (ks ++ run) cs ≡ woven n ks cs ++ run
   woven-run n ks run [] p e a = refl
   woven-run n ks run (c ∷ cs) p e a =
-      let k = a.0 in
-      let m : c.place - n ≤ length ks = omega (arith, e, k) in
-      let more = woven-run (n + (c.place - n)) (drop (c.place - n) ks) run cs p (rest-long n ks c.place p e k) a.1 in
-      rw (take-append-le (c.place - n) ks run m, drop-append-le (c.place - n) ks run m, more)
-      (sym (append_assoc (take (c.place - n) ks) (c.tree ∷ woven (n + (c.place - n)) (drop (c.place - n) ks) cs) run))
+      let long = length-drop (c.place - n) ks in
+      let more = woven-run (n + (c.place - n)) (drop (c.place - n) ks) run cs p (omega (arith, long, e, a.0)) a.1 in
+      grind (arith, take-append-le (c.place - n) ks run, drop-append-le (c.place - n) ks run, more, append_assoc, a.0)
 
   -- a comer behind all trees
   pub woven-comer : (n : ℕ) (ks : List T) (t : T) (cs : List (Comer T)) (p : ℕ) → p ≡ n + length ks → AreWithin p cs
       → woven n ks (cs ++ (comer p t ∷ [])) ≡ woven n ks cs ++ (t ∷ [])
-  woven-comer n ks t [] p e a =
-      let m : length ks ≤ p - n = omega (arith, e) in
-      rw (take_all (p - n) ks m, drop_of_length-le ks m) refl
+  woven-comer n ks t [] p e a = grind (arith, take_all, drop_of_length-le)
   woven-comer n ks t (c ∷ cs) p e a =
-      let k = a.0 in
-      let more = woven-comer (n + (c.place - n)) (drop (c.place - n) ks) t cs p (rest-long n ks c.place p e k) a.1 in
-      rw more (sym (append_assoc (take (c.place - n) ks) (c.tree ∷ woven (n + (c.place - n)) (drop (c.place - n) ks) cs) (t ∷ [])))
+      let long = length-drop (c.place - n) ks in
+      let more = woven-comer (n + (c.place - n)) (drop (c.place - n) ks) t cs p (omega (arith, long, e, a.0)) a.1 in
+      grind (arith, more, append_assoc)

@@ -1,12 +1,11 @@
 -- A copy of a tree that one side alone has.
 --     copied-by        a copy is a child that begins as the tree did, and what is said of each value and its copy is said of
 -- the two
-use Rattle.std.proofs.Common.{ℕ, ◌<◌, List, Option, Some, subst, length, arith}
+use Rattle.std.proofs.Common.{ℕ, ◌<◌, List, Option, Some, length, arith}
 use Rattle.std.specs.declared.cmp.Ordering.{Ordering}
 use Rattle.vc_tree_model.specs.Tree.{Tree, Forest, shortened}
 use Rattle.vc_tree_model.specs.Value.{IsKept}
 use Rattle.vc_tree_model.specs.Canonical.{IsCanonical, IsWhole, IsSolid}
-use Rattle.vc_tree_model.specs.Child.{Begins}
 use Rattle.vc_tree_model.specs.Same.{IsAlike}
 use Rattle.vc_tree_model.proofs.AlikeLemmas.{alike-solid, alike-children, tree-alike_lookup}
 use Rattle.vc_tree_facing.specs.Made.{IsMade}
@@ -22,6 +21,6 @@ copied-by cmp keeps t u i c h a S f = record {
     alike-solid keeps t.value u.value t.children u.children a.1 a.2 (solid-at i t.prefix t.value t.children c.0 h),
     alike-children keeps cmp t.children u.children a.2 c.1,
   );
-  begins = λ y e. subst (Begins cmp y) a.0 e;
+  begins = grind arith;
   binds = λ k. f _ _ (tree-alike_lookup keeps cmp (shortened i t) u a k);
 }

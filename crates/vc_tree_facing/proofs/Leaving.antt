@@ -2,7 +2,7 @@
 --     value-may, below-may        what may be asked of the values at that place, and of what is below
 --     node-lessened, inside-lessened        what is left of the tree, where its prefix has ended, and where it continues
 use Rattle.std.proofs.Common.{◌≡◌, ℕ, ◌+◌, ◌<◌, ◌≤◌, Bool, cond, List, [], ◌∷◌, ◌++◌, Option, None}
-use Rattle.std.proofs.Common.{sym, ap, ◌∙◌, length, length-drop, take, drop, arith, Result}
+use Rattle.std.proofs.Common.{length, length-drop, take, drop, arith, Result}
 use Rattle.std.proofs.Math.ListN.{drop_of_length-le}
 use Rattle.std.proofs.lemmas.List.{take-append-drop, drop-take, drop-drop, take_all, take-take}
 use Rattle.std.specs.Prelude.{IfOk}
@@ -11,9 +11,9 @@ use Rattle.vc_tree_model.specs.Canonical.{AreChildren, IsCanonical}
 use Rattle.vc_tree_model.specs.Child.{solid_child, value_at, children_at}
 use Rattle.vc_tree_model.specs.Look.{Look}
 use Rattle.vc_tree_model.specs.Map.{lookup, lookup_in}
-use Rattle.vc_tree_model.specs.Tree.{Tree, Forest, bare, grow, shortened, nodes, forest_nodes}
+use Rattle.vc_tree_model.specs.Tree.{Tree, Forest, bare, shortened, nodes, forest_nodes}
 use Rattle.vc_tree_facing.specs.Facing.{shortened_in, IsOpened, IsSplit}
-use Rattle.vc_tree_facing.specs.Lessening.{alone, left_of, IsBehind, KeepsFront, IsLessenedUnder, IsLessened, IsInside}
+use Rattle.vc_tree_facing.specs.Lessening.{alone, IsBehind, IsLessenedUnder, IsLessened, IsInside}
 use Rattle.vc_tree_facing.specs.Lessening.{IsNodeLeft}
 use Rattle.vc_tree_facing.specs.Made.{IsBothMadeBy}
 use Rattle.vc_tree_facing.proofs.Ending.{below-children, front-asked, made-front}
@@ -22,30 +22,13 @@ use Rattle.vc_tree_facing.proofs.Opening.{opened-rest}
 pub if-ok : {X E : Type 0} {P Q : X → Type 0} (r : Result X E) → ((x : X) → P x → Q x) → IfOk r P → IfOk r Q
 if-ok r f a = grind arith
 
--- ---- fronts that stay
-
--- what stays of a longer front
-shorter-front : {K V : Type 0} (i n : ℕ) (t new : Tree K V) (stays : Bool) → KeepsFront (i + n) t stays new
-    → KeepsFront i t stays new
-shorter-front i n t new stays f s =
-    sym (take-take i (i + n) new.prefix (omega arith)) ∙ ap (take i) (f s) ∙ take-take i (i + n) t.prefix (omega arith)
-
 -- what is left behind a shorter front
 longer-rest : {K : Type 0} (i n : ℕ) (p q : List K) → take (i + n) q ≡ take (i + n) p
     → take n (drop i p) ++ drop (i + n) q ≡ drop i q
 longer-rest i n p q e =
     rw (← drop-take i n p, ← e, drop-take i n q, ← drop-drop n i q) (take-append-drop n (drop i q))
 
--- a tree that stays, behind a shorter front
-inside-is : {K V : Type 0} (i n : ℕ) (t new : Tree K V) (stays : Bool) → KeepsFront (i + n) t stays new
-    → left_of stays i new ≡ solid_child (take n (drop i t.prefix)) None (cond stays (alone (i + n) new) bare)
-inside-is i n t new stays f = grind (arith, longer-rest)
-
 -- ---- what stands behind a place of a prefix
-
-inner-by : {K V : Type 0} (t : Tree K V) (r : List K) → 0 < length r
-    → (None ≡ value_at t r) × (grow r t.value t.children bare ≡ children_at t r)
-inner-by t r h = grind arith
 
 module _ {K V : Type 0} (i n : ℕ) (t : Tree K V) where
   -- where the prefix has ended, the node itself
@@ -54,10 +37,7 @@ module _ {K V : Type 0} (i n : ℕ) (t : Tree K V) where
 
   -- and else what is left of the tree
   pub inner-node : i + n < length t.prefix → IsBehind i n t None (alone (i + n) t)
-  inner-node within =
-      let k = length-drop (i + n) t.prefix in
-      let h = inner-by (shortened i t) (drop (i + n) t.prefix) (omega (arith, k, within)) in
-      record { value = rw (drop-drop n i t.prefix) h.0; children = rw (drop-drop n i t.prefix) h.1 }
+  inner-node within = grind (arith, length-drop (i + n) t.prefix, drop-drop n i t.prefix)
 
   -- the trees below the place
   pub opened-node : {v : Option V} → v ≡ value_at (shortened i t) (drop n (drop i t.prefix)) → {B : Type 0} {tb : B → Tree K V}
@@ -106,18 +86,13 @@ module _ {K V W : Type 0} {cmp : K → K → Ordering} {t : Tree K V} {i : ℕ} 
       -- where the left prefix has ended
       pub node-lessened : {stays : Bool} {new : Tree K V} → IsNodeLeft cmp l R i t w g stays new → length t.prefix ≤ i + n
           → IsLessened cmp l R i t (shortened j u) stays new
-      node-lessened {stays} {new} h long =
-          let k = length-drop i t.prefix in
-          let whole : take n (drop i t.prefix) ≡ drop i t.prefix = take_all n (drop i t.prefix) (omega (arith, k, long)) in
-          let is : left_of stays i new ≡ solid_child (take n (drop i t.prefix)) h.value h.kids = rw whole h.is in
-          record { made = rw is (at-front (ended-node i n t long) h.value h.kids h.said h.below h.children); front = h.front }
+      node-lessened h long =
+          let m = at-front (ended-node i n t long) h.value h.kids h.said h.below h.children in
+          grind (arith, length-drop i t.prefix, take_all n (drop i t.prefix), m)
 
       -- where it goes on
       pub inside-lessened : {stays : Bool} {new : Tree K V} → IsInside cmp l R (i + n) t w g stays new → i + n < length t.prefix
           → IsLessened cmp l R i t (shortened j u) stays new
-      inside-lessened {stays} {new} h within = record {
-        made =
-            rw (inside-is i n t new stays h.front) (at-front (inner-node i n t within) None (cond stays (alone (i + n) new) bare)
-            h.said h.below h.children);
-        front = shorter-front i n t new stays h.front;
-      }
+      inside-lessened {stays} {new} h within =
+          let m = at-front (inner-node i n t within) None (cond stays (alone (i + n) new) bare) h.said h.below h.children in
+          grind (arith, longer-rest, take-take i (i + n) new.prefix, take-take i (i + n) t.prefix, m)

@@ -1,5 +1,5 @@
 -- What a node's value and children say of the tree, and a canonical tree that is not bare binds a key.
-use Rattle.std.proofs.Common.{◌≡◌, [], ◌∷◌, ◌++◌, List, Option, None, length, map, arith, ◌==◌, refl, sym, ap, ◌∙◌, subst}
+use Rattle.std.proofs.Common.{◌≡◌, [], ◌∷◌, ◌++◌, List, Option, None, length, map, arith, ◌==◌, ap}
 use Rattle.std.proofs.Common.{Bool, true, false, inl, inr, ◌⊎◌}
 use Rattle.std.specs.Option.{is_some}
 use Rattle.std.specs.Cmp.{IsTotalOrder}
@@ -13,27 +13,19 @@ use Rattle.vc_tree_model.proofs.LookupLemmas.{AreNothing, nothing-bound, tree-bo
 -- a node with no value is bare exactly where its list of children is empty
 pub is_bare-by : {K V T : Type 0} (tree : T → Tree K V) (xs : List T) (p : List K) (v : Option V) (kids : Forest K V)
     → None ≡ v → forest (map tree xs) ≡ kids → (length xs == 0) ≡ is_bare (node p v kids)
-is_bare-by tree [] p v kids a b = rw (← a, ← b) refl
+is_bare-by tree [] p v kids a b = grind arith
 is_bare-by tree (x ∷ xs) p v kids a b = grind arith
 
 module _ {K V : Type 0} (cmp : K → K → Ordering) (o : IsTotalOrder cmp) where
-  solid-bare : (t : Tree K V) → IsSolid t.value t.children → is_bare t ≡ false
-  solid-bare t s = grind arith
-
-  nothing-bare : (t : Tree K V) → AreNothing cmp t.prefix t.value t.children → is_bare t ≡ true
-  nothing-bare t n = grind arith
-
   -- a canonical tree is bare exactly where it binds no key
   pub bare-keys : (t : Tree K V) → IsCanonical cmp t → (b : Bool) → b ≡ is_bare t
       → MatchBool b ((k : List K) → lookup cmp t k ≡ None) ((k : List K) × IsSome (lookup cmp t k))
   bare-keys t c b e = by (whole-cases cmp t.prefix t.value t.children c.0)
     where
-      Told : Bool → Type 0
-      Told b = MatchBool b ((k : List K) → lookup cmp t k ≡ None) ((k : List K) × IsSome (lookup cmp t k))
-
-      by : IsSolid t.value t.children ⊎ AreNothing cmp t.prefix t.value t.children → Told b
+      by : IsSolid t.value t.children ⊎ AreNothing cmp t.prefix t.value t.children
+          → MatchBool b ((k : List K) → lookup cmp t k ≡ None) ((k : List K) × IsSome (lookup cmp t k))
       by (inl s) =
           let bound = tree-bound cmp o t.prefix t.value t.children s c.1 in
-          subst Told (sym (e ∙ solid-bare t s)) (t.prefix ++ bound.key, ap is_some bound.is)
-      by (inr n) =
-          subst Told (sym (e ∙ nothing-bare t n)) (nothing-bound cmp t.prefix t.value t.children n)
+          let full : is_bare t ≡ false = grind arith in
+          rw (e, full) (t.prefix ++ bound.key, ap is_some bound.is)
+      by (inr n) = let bare : is_bare t ≡ true = grind arith in rw (e, bare) (nothing-bound cmp t.prefix t.value t.children n)

@@ -1,18 +1,16 @@
 -- What the way down a tree costs: at most one comparison and one search for each component of the key.
 --     IsWithin most d count left known        what was counted and what may come stay within the most that may be counted
 --     down-behind        one more prefix was compared with the key, which continues after it
---     behind-length, some-first, searched-within        how much of the key is left, and what a search of children costs
+--     behind-length, searched-within        how much of the key is left, and what a search of children costs
 --     down-searched, down-missed        the children were searched: for the next node, or in vain
-use Rattle.std.proofs.Common.{◌≡◌, ℕ, ◌+◌, ◌-◌, ◌*◌, ◌≤◌, [], ◌∷◌, List, Some}
-use Rattle.std.proofs.Common.{length, map, sym, ap, ◌∙◌, arith}
+use Rattle.std.proofs.Common.{◌≡◌, ℕ, ◌+◌, ◌-◌, ◌*◌, ◌≤◌, ◌∷◌, List, Some}
+use Rattle.std.proofs.Common.{length, map, min, ap, ◌∙◌, arith}
 use Rattle.std.proofs.Math.Nat.{mul-le-mul_right, add-mul}
-use Rattle.std.specs.Prelude.{slice_get}
 use Rattle.std.specs.declared.cmp.Ordering.{Ordering}
 use Rattle.vc_merge.specs.Count.{digits}
 use Rattle.vc_merge.proofs.Digits.{digits-monotone}
 use Rattle.vc_tree_model.specs.Key.{behind}
 use Rattle.vc_tree_model.specs.Tree.{Tree, forest, width}
-use Rattle.vc_tree_model.proofs.KeyLemmas.{none-some}
 use Rattle.vc_tree_nodes.proofs.Finding.{trees-length}
 
 -- of a key `left` components are to come, each of which may cost one comparison and a search of d, where the search for the
@@ -26,29 +24,20 @@ pub behind-length : {K : Type 0} (cmp : K → K → Ordering) (p k rest : List K
 behind-length cmp (x ∷ p) (y ∷ k) rest e = grind (arith, behind-length cmp p k rest)
 behind-length cmp p k rest e = grind arith
 
--- a list that begins with something is not empty
-pub some-first : {X : Type 0} (xs : List X) (x : X) → Some x ≡ slice_get xs 0 → 1 ≤ length xs
-some-first [] x e = none-some x (sym e)
-some-first (y ∷ xs) x e = omega arith
-
 -- a search of the children of a node costs no more than one of as many as the tree has at a node
 pub searched-within : {K V T : Type 0} (tree : T → Tree K V) (xs : List T) (node t : Tree K V)
     → forest (map tree xs) ≡ node.children → width node ≤ width t → digits (length xs) ≤ digits (width t)
 searched-within tree xs node t e w = grind (arith, trees-length, digits-monotone)
 
--- one comparison a component, and one search
-each-twice : (n d : ℕ) → n * (1 + d) ≡ n + n * d
-each-twice n d = grind arith
-
--- the prefix of p components was compared with the key behind the known ones, and the key goes on behind it
-pub down-behind : (most d old new left known p rest : ℕ) → IsWithin most d old left known → known ≤ p → left ≡ p + rest
-    → new ≤ old + (p - known) → new + rest * (1 + d) ≤ most
-down-behind most d old new left known p rest h k e n =
-    let whole = each-twice left d in
-    let behind = each-twice rest d in
-    let parts : left * d ≡ p * d + rest * d = ap (λ m. m * d) e ∙ add-mul p rest d in
-    let fewer : known * d ≤ p * d = mul-le-mul_right d k in
-    omega (arith, whole, behind, parts, fewer)
+-- the prefix was compared with the key behind the known components, and the key goes on behind it
+pub down-behind : {K : Type 0} (cmp : K → K → Ordering) (most d old new known : ℕ) (p q k rest : List K) → p ≡ q
+    → behind cmp p k ≡ Some rest → IsWithin most d old (length k) known → known ≤ length q
+    → new ≤ old + (min (length p) (length k) - known) → new + length rest * (1 + d) ≤ most
+down-behind cmp most d old new known p q k rest i b h s n =
+    let long = behind-length cmp p k rest b in
+    let parts : length k * d ≡ length p * d + length rest * d = ap (λ m. m * d) long ∙ add-mul (length p) (length rest) d in
+    let fewer : known * d ≤ length q * d = mul-le-mul_right d s in
+    grind (arith, long, i, parts, fewer, h, n)
 
 -- the children were searched for the first component of what is left
 pub down-searched : (most d old new rest : ℕ) → old + rest * (1 + d) ≤ most → new ≤ old + d → IsWithin most d new rest 1

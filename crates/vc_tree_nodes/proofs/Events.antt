@@ -1,18 +1,19 @@
 -- The events of an insertion: how each changes a node.
---     on-ok, on-err, on-both        what follows from the outcome of a call
+--     on-err, on-both        what follows from the outcome of a call
 --     value-set, child-added, child-grown, top-made, pair-made, leaf-made        the events
 --     parts-canonical        a node whose children stayed alike
 --     leads_.., list-updated, list-grown, list-alike        the child that the key leads to, and the list once it is changed
---     low-from, length-kept        lists that were lent or copied
-use Rattle.std.proofs.Common.{◌≡◌, ℕ, suc, ◌<◌, ◌≤◌, [], ◌∷◌, ◌++◌, List, Option, None, Some, refl, sym, ap}
-use Rattle.std.proofs.Common.{subst, ◌∙◌, arith, get_or, set, map, take, drop, length, append-nil, length-drop, ◌-◌}
-use Rattle.std.proofs.Common.{true, cond}
-use Rattle.std.proofs.lemmas.List.{take-append-drop, take_all}
+--     low-from, length-kept, copied-canonical        lists that were lent or copied
+use Rattle.std.proofs.Common.{◌≡◌, ℕ, suc, ◌<◌, ◌≤◌, [], ◌∷◌, ◌++◌, List, Option, None, Some, refl, sym}
+use Rattle.std.proofs.Common.{arith, get_or, set, map, take, drop, length, append-nil, length-drop, ◌-◌}
+use Rattle.std.proofs.Common.{true}
+use Rattle.std.proofs.lemmas.List.{take-append-drop, take_rest}
 use Rattle.std.specs.Cmp.{IsTotalOrder}
 use Rattle.std.specs.List.{insert}
-use Rattle.std.specs.Prelude.{Result, OnOk, OnErr, slice_get}
+use Rattle.std.specs.Prelude.{Result, OnOk, OnErr}
 use Rattle.std.specs.declared.cmp.Ordering.{Ordering}
-use Rattle.vc_tree_model.specs.Tree.{Tree, Forest, bare, grow, forest, node, made, is_bare, nodes, forest_nodes}
+use Rattle.vc_tree_model.specs.Tree.{Tree, Forest, bare, forest, node, made, is_bare, nodes, forest_nodes, shortened}
+use Rattle.vc_tree_model.specs.Value.{IsKept}
 use Rattle.vc_tree_model.specs.Map.{lookup, lookup_in, IsUpdated}
 use Rattle.vc_tree_model.specs.Canonical.{IsSolid, IsWhole, AreChildren, IsCanonical}
 use Rattle.vc_tree_model.specs.Same.{IsAlike, IsAlikeIn}
@@ -21,6 +22,8 @@ use Rattle.vc_tree_nodes.specs.Parting.{Agree, SplitsAt}
 use Rattle.vc_tree_nodes.specs.Places.{FitsAt, IsGapAt, LeadsTo, child_first}
 use Rattle.vc_tree_model.specs.Snapshot.{kept_itself}
 use Rattle.vc_tree_model.proofs.AlikeLemmas.{alike-children, alike-solid, alike-trans, alike-lookup, alike-canonical, alike-nodes}
+use Rattle.vc_tree_model.proofs.AlikeLemmas.{tree-alike_canonical}
+use Rattle.vc_tree_model.proofs.Shortening.{shortened-canonical}
 use Rattle.vc_tree_nodes.proofs.Finding.{begins-below, child-nodes}
 use Rattle.vc_tree_nodes.proofs.Firsts.{child_first-map}
 use Rattle.vc_tree_nodes.proofs.Parted.{agree-one}
@@ -29,15 +32,7 @@ use Rattle.vc_tree_nodes.proofs.Growing.{children-insert, children-set, alike-se
 use Rattle.vc_tree_nodes.proofs.Updating.{lookup-leaf, updated-behind, updated-value, updated-children, updated-split}
 use Rattle.vc_tree_nodes.proofs.Updating.{updated-insert, updated-set, updated-alike}
 
--- two nodes of equal parts
-pub node-equal : {K V : Type 0} (p q : List K) (v w : Option V) (f g : Forest K V) → p ≡ q → v ≡ w → f ≡ g
-    → node p v f ≡ node q w g
-node-equal p q v w f g a b c = rw (a, b, c) refl
-
--- what holds of one outcome, holds where it follows
-pub on-ok : {X E A B : Type 0} (r : Result X E) → (A → B) → OnOk r A → OnOk r B
-on-ok r f a = grind arith
-
+-- what holds of an error, holds where it follows
 pub on-err : {X E A B : Type 0} (r : Result X E) → (A → B) → OnErr r A → OnErr r B
 on-err r f a = grind arith
 
@@ -67,8 +62,15 @@ empty-kept keeps tree xs ys e h = grind arith
 -- the rest of a prefix, copied from the slice that was lent
 pub low-from : {K : Type 0} (a whole p : List K) (n : ℕ) → a ≡ take (length whole - n) (drop n whole) → whole ≡ p
     → a ≡ drop n p
-low-from {K = K} a whole p n h e =
-    h ∙ take_all (length whole - n) (drop n whole) (omega (arith, length-drop {A = K} n whole)) ∙ ap (drop n) e
+low-from a whole p n h e = grind (arith, take_rest)
+
+-- a node without the first components of its prefix, of a copied value and copied children, is canonical
+pub copied-canonical : {K V : Type 0} (is_clone : V → V → Type 0) (cmp : K → K → Ordering) (t : Tree K V) (n : ℕ)
+    {made whole : List K} (v : Option V) (f : Forest K V) → made ≡ take (length whole - n) (drop n whole) → whole ≡ t.prefix
+    → IsKept is_clone t.value v → IsAlikeIn is_clone t.children f → IsCanonical cmp t → IsCanonical cmp (node made v f)
+copied-canonical is_clone cmp t n {made} {whole} v f e w value children canonical =
+    tree-alike_canonical is_clone cmp (shortened n t) (node made v f)
+    (sym (low-from made whole t.prefix n e w), value, children) (shortened-canonical cmp n t canonical)
 
 module _ {K V : Type 0} {cmp : K → K → Ordering} {keeps : V → V → Type 0} (r : (v : V) → keeps v v)
     (trans : (u v w : V) → keeps u v → keeps v w → keeps u w) (o : IsTotalOrder cmp) where
@@ -77,16 +79,13 @@ module _ {K V : Type 0} {cmp : K → K → Ordering} {keeps : V → V → Type 0
   -- the value of the prefix is new
   pub value-set : (t : Tree K V) {u : Tree K V} {p : List K} {f : Forest K V} (value : V) → p ≡ t.prefix → f ≡ t.children
       → u ≡ node p (Some value) f → IsCanonical cmp t → Inserted cmp keeps t t.prefix value t.prefix u
-  value-set t {u} {p} {f} value a b e canonical =
-      subst (λ u. Inserted cmp keeps t t.prefix value t.prefix u)
-      (sym (e ∙ node-equal p t.prefix (Some value) (Some value) f t.children a refl b))
-      (record {
-        updated =
-            updated-behind cmp keeps [] value [] t.value (Some value) t.children t.children
-            (updated-value cmp keeps r value t.value t.children)
-            t.prefix t.prefix t.prefix (sym (append-nil t.prefix)) (sym (append-nil t.prefix));
-        branch = record { prefix = refl; solid = tt; children = canonical.1 };
-      })
+  value-set t {u} {p} {f} value a b e canonical = rw (e, a, b) record {
+    updated =
+        updated-behind cmp keeps [] value [] t.value (Some value) t.children t.children
+        (updated-value cmp keeps r value t.value t.children)
+        t.prefix t.prefix t.prefix (sym (append-nil t.prefix)) (sym (append-nil t.prefix));
+    branch = record { prefix = refl; solid = tt; children = canonical.1 };
+  }
 
   -- ---- a node's children
 
@@ -112,29 +111,20 @@ module _ {K V : Type 0} {cmp : K → K → Ordering} {keeps : V → V → Type 0
     child-added t {u} {p} {v} {old} {new} {i} {item} {rest} {value} a b c e canonical solid fits leaf added =
         let f = forest (map tree old) in
         let g = forest (map tree added.kept) in
-        let gap : IsGapAt cmp g fits.first i =
-        gap-alike cmp keeps f g fits.first i added.alike (subst (λ h. IsGapAt cmp h fits.first i) (sym c) fits.gap) in
-        let one : tree item ≡ node (fits.first ∷ fits.others) (Some value) bare =
-        leaf ∙ ap (λ k. node k (Some value) bare) fits.key_is in
-        let kids : AreChildren cmp g =
-        alike-children keeps cmp f g added.alike (subst (AreChildren cmp) (sym c) canonical.1) in
-        let firm : IsSolid t.value g =
-        alike-solid keeps t.value t.value f g (kept_itself keeps r t.value) added.alike
-        (subst (IsSolid t.value) (sym c) solid) in
-        subst (λ u. Inserted cmp keeps t (t.prefix ++ rest) value t.prefix u)
-        (sym (e ∙ node-equal p t.prefix v t.value (forest (map tree new))
-        (forest (map tree (insert added.kept i item))) a b (ap (λ l. forest (map tree l)) added.is)))
-        (subst (λ k. Inserted cmp keeps t (t.prefix ++ k) value t.prefix
-        (node t.prefix t.value (forest (map tree (insert added.kept i item))))) (sym fits.key_is)
-        (children-changed t fits.first fits.others value (forest (map tree (insert added.kept i item)))
+        let gap = gap-alike cmp keeps f g fits.first i added.alike (rw (← c) at fits.gap) in
+        let one : tree item ≡ node (fits.first ∷ fits.others) (Some value) bare = rw fits.key_is at leaf in
+        let kids = alike-children keeps cmp f g added.alike (rw (← c) at canonical.1) in
+        let firm = alike-solid keeps t.value t.value f g (kept_itself keeps r t.value) added.alike (rw (← c) at solid) in
+        rw (e, a, b, added.is, fits.key_is) (children-changed t fits.first fits.others value _
         (solid-insert tree t.value added.kept i item firm)
         (children-insert cmp tree added.kept i item fits.first fits.others value one gap kids)
-        (subst (λ h. IsUpdated cmp keeps (fits.first ∷ fits.others) value (lookup_in cmp h)
-        (lookup_in cmp (forest (map tree (insert added.kept i item))))) c
-        (updated-alike cmp keeps trans (fits.first ∷ fits.others) value (lookup_in cmp f) (lookup_in cmp g)
-        (lookup_in cmp (forest (map tree (insert added.kept i item))))
-        (alike-lookup keeps cmp f g added.alike)
-        (updated-insert cmp keeps o r tree added.kept i item fits.first fits.others value one gap)))))
+        (grind (
+          arith,
+          c,
+          updated-alike cmp keeps trans,
+          alike-lookup keeps cmp f g added.alike,
+          updated-insert cmp keeps o r tree added.kept i item fits.first fits.others value one gap,
+        )))
 
     -- children that changed
     pub child-grown : (t : Tree K V) {u : Tree K V} {p : List K} {v : Option V} (old new : List T) {rest : List K} {value : V}
@@ -143,7 +133,7 @@ module _ {K V : Type 0} {cmp : K → K → Ordering} {keeps : V → V → Type 0
         → AreChildren cmp (forest (map tree new))
         → IsUpdated cmp keeps rest value (lookup_in cmp (forest (map tree old))) (lookup_in cmp (forest (map tree new)))
         → Inserted cmp keeps t (t.prefix ++ rest) value t.prefix u
-    child-grown t old new a b c e solid key n kids w = grind (arith, node-equal, children-changed, solid-length)
+    child-grown t old new a b c e solid key n kids w = grind (arith, children-changed, solid-length)
 
     -- a node whose children stayed alike is canonical
     pub parts-canonical : (t : Tree K V) {p : List K} {v : Option V} (old new : List T) → p ≡ t.prefix → v ≡ t.value
@@ -158,14 +148,7 @@ module _ {K V : Type 0} {cmp : K → K → Ordering} {keeps : V → V → Type 0
     -- what was cut off below stands alone as a child
     low-children : (t : Tree K V) (n : ℕ) (low : T) → n < length t.prefix → IsCanonical cmp t
         → tree low ≡ node (drop n t.prefix) t.value t.children → AreChildren cmp (forest (map tree (low ∷ [])))
-    low-children t n low h canonical e =
-        subst (λ l. AreChildren cmp (grow l.prefix l.value l.children bare)) (sym e)
-        (alone (drop n t.prefix) (omega (arith, length-drop {A = K} n t.prefix))
-        (whole-solid t.prefix t.value t.children (omega arith) canonical.0))
-      where
-        alone : (p : List K) → 0 < length p → IsSolid t.value t.children → AreChildren cmp (grow p t.value t.children bare)
-        alone [] l s = absurd (omega arith)
-        alone (x ∷ p) l s = (s, canonical.1, tt, tt)
+    low-children t n low h canonical e = grind (arith, e, length-drop {A = K} n t.prefix)
 
     -- the half below, put below a new node, reads as before
     split-updated : (t : Tree K V) (n : ℕ) (low : T) (rest : List K) (value : V) (w : Option V) (g : Forest K V)
@@ -175,9 +158,7 @@ module _ {K V : Type 0} {cmp : K → K → Ordering} {keeps : V → V → Type 0
     split-updated t n low rest value w g h e u =
         updated-behind cmp keeps rest value (drop n t.prefix) t.value w t.children g
         (updated-split cmp keeps rest value (drop n t.prefix) t.value t.children (lookup cmp (node [] w g))
-        (omega (arith, length-drop {A = K} n t.prefix))
-        (subst (λ l. IsUpdated cmp keeps rest value (lookup cmp
-        (node [] None (grow l.prefix l.value l.children bare))) (lookup cmp (node [] w g))) e u))
+        (omega (arith, length-drop {A = K} n t.prefix)) (rw e at u))
         (take n t.prefix) t.prefix (take n t.prefix ++ rest) (sym (take-append-drop n t.prefix)) refl
 
     -- a new node of the value above the half below, which was put into an empty list
@@ -188,14 +169,11 @@ module _ {K V : Type 0} {cmp : K → K → Ordering} {keeps : V → V → Type 0
         → new ≡ list → u ≡ node p (Some value) (forest (map tree new))
         → Inserted cmp keeps t (take n t.prefix) value (take n t.prefix) u
     top-made {t} {n = n} {p} {q} {whole} {low} {none} {kept} {value = value} h canonical w a b e z alike k x y d =
+        let half = rw (low-from q whole t.prefix n b w) at e in
         let f = forest (map tree (low ∷ [])) in
-        let half : tree low ≡ node (drop n t.prefix) t.value t.children =
-        e ∙ ap (λ q. node q t.value t.children) (low-from q whole t.prefix n b w) in
+        let above = split-updated t n low [] value (Some value) f h half (updated-value cmp keeps r value None f) in
         rw (d, y, x, k, empty-kept keeps tree none kept z alike, a, w) (record {
-          updated =
-              subst (λ k. IsUpdated cmp keeps k value (lookup cmp t)
-              (lookup cmp (node (take n t.prefix) (Some value) f))) (append-nil (take n t.prefix))
-              (split-updated t n low [] value (Some value) f h half (updated-value cmp keeps r value None f));
+          updated = rw append-nil at above;
           branch = record { prefix = refl; solid = tt; children = low-children t n low h canonical half };
         })
 
@@ -209,21 +187,17 @@ module _ {K V : Type 0} {cmp : K → K → Ordering} {keeps : V → V → Type 0
         → Inserted cmp keeps t (take n t.prefix ++ rest) value (take n t.prefix) u
     pair-made {t} {n = n} {i} {p = p} {q} {whole} {low} {leaf} {none} {kept} {value = value}
         s canonical w a b e l z alike k x m y d =
-        let half : tree low ≡ node (drop n t.prefix) t.value t.children =
-        e ∙ ap (λ q. node q t.value t.children) (low-from q whole t.prefix n b w) in
+        let half = rw (low-from q whole t.prefix n b w) at e in
         let f = forest (map tree (low ∷ [])) in
         let g = forest (map tree (insert (low ∷ []) i leaf)) in
         let first = s.fits.first in
         let others = s.fits.others in
-        let gap : IsGapAt cmp f first i =
-        subst (λ l. IsGapAt cmp (grow l.prefix l.value l.children bare) first i) (sym half) s.fits.gap in
-        let alone : tree leaf ≡ node (first ∷ others) (Some value) bare = l ∙ ap (λ k. node k (Some value) bare) s.fits.key_is in
-        rw (d, y, m, x, k, empty-kept keeps tree none kept z alike, a, w) (record {
+        let gap : IsGapAt cmp f first i = rw half s.fits.gap in
+        let alone : tree leaf ≡ node (first ∷ others) (Some value) bare = rw s.fits.key_is at l in
+        rw (d, y, m, x, k, empty-kept keeps tree none kept z alike, a, w, s.fits.key_is) (record {
           updated = split-updated t n low _ value None g s.within half
-              (subst (λ k. IsUpdated cmp keeps k value (lookup cmp (node [] None f)) (lookup cmp (node [] None g)))
-              (sym s.fits.key_is)
               (updated-children cmp keeps r first others value None None f g tt
-              (updated-insert cmp keeps o r tree (low ∷ []) i leaf first others value alone gap)));
+              (updated-insert cmp keeps o r tree (low ∷ []) i leaf first others value alone gap));
           branch = record {
             prefix = refl;
             solid = pair-solid tree low [] i leaf;
@@ -254,20 +228,24 @@ module _ {K V : Type 0} {cmp : K → K → Ordering} {keeps : V → V → Type 0
           begins-below cmp tree kept leads.first i (record
           { here = leads.begins.here; at = leads-kept; equal = leads.begins.equal })
 
-      -- it agrees with the key in one component
-      pub leads-agree : {child : T} → child ≡ get_or kept i child → Agree cmp (tree child).prefix rest 1
-      leads-agree {child} is =
-          agree-one cmp (tree child).prefix rest leads.begins.here leads.first leads.others
-          (ap (λ c. slice_get (tree c).prefix 0) is ∙ sym (child_first-map cmp tree kept i child leads-within) ∙
-          leads-kept) leads.begins.equal leads.key_is
-
       -- the children that were copied are canonical
       pub kept-children : AreChildren cmp (forest (map tree kept))
       kept-children = grind (arith, alike-children)
 
-      -- the tree has a value or at least two children
-      pub leads-solid : {child : T} → child ≡ get_or kept i child → IsSolid (tree child).value (tree child).children
-      leads-solid is = grind (arith, child-solid, kept-children, leads-within)
+      -- it agrees with the key in one component, and has a value or at least two children
+      pub leads-child : {child : T} → child ≡ get_or kept i child
+          → Agree cmp (tree child).prefix rest 1 × IsSolid (tree child).value (tree child).children
+      leads-child {child} is = (
+        grind (
+          arith,
+          agree-one cmp (tree child).prefix rest leads.begins.here leads.first leads.others,
+          child_first-map cmp tree kept i child leads-within,
+          leads-kept,
+          leads.begins.equal,
+          leads.key_is,
+        ),
+        grind (arith, child-solid, kept-children, leads-within),
+      )
 
       -- and no more nodes than the list
       pub leads-nodes : {child : T} → child ≡ get_or kept i child → nodes (tree child) ≤ forest_nodes (forest (map tree old))
@@ -282,9 +260,7 @@ module _ {K V : Type 0} {cmp : K → K → Ordering} {keeps : V → V → Type 0
 
         -- the trees are canonical children where that one has grown
         pub list-grown : IsGrown cmp 1 (tree child) (tree item) → AreChildren cmp (forest (map tree new))
-        list-grown g =
-            rw set_is (children-set cmp tree kept i item child (subst (λ c. IsGrown cmp 1 (tree c) (tree item)) is g)
-            kept-children)
+        list-grown g = grind (arith, children-set cmp tree kept i item child, kept-children)
 
         -- the trees are alike where that one is
         pub list-alike : IsAlike keeps (tree child) (tree item)
@@ -292,17 +268,12 @@ module _ {K V : Type 0} {cmp : K → K → Ordering} {keeps : V → V → Type 0
         list-alike h = grind (arith, alike-trans, alike-set)
 
 module _ {K V : Type 0} (cmp : K → K → Ordering) (keeps : V → V → Type 0) where
-  -- such a node binds no key
-  bare-none : (p : List K) (v : Option V) (f : Forest K V) (k : List K) → is_bare (node p v f) ≡ true
-      → lookup cmp (node p v f) k ≡ None
-  bare-none p v f k e = grind arith
-
   -- a leaf in the place of the empty tree
   pub leaf-made : (t u : Tree K V) (key : List K) (value : V) → is_bare t ≡ true → u ≡ made key (Some value) []
       → IsUpdated cmp keeps key value (lookup cmp t) (lookup cmp u)
   leaf-made t u key value b e = rw e (record {
-    at = λ k s. lookup-leaf cmp keeps key k value ∙ ap (λ b. cond b (Some value) None) s;
-    others = λ k s. rw (bare-none t.prefix t.value t.children k b, lookup-leaf cmp keeps key k value, s) tt;
+    at = λ k s. grind (arith, lookup-leaf cmp keeps key k value);
+    others = λ k s. grind (arith, lookup-leaf cmp keeps key k value);
   })
 
 -- ---- lists of items that a list was made of

@@ -3,19 +3,15 @@
 --     found-at, gap-none        what a found child binds; that no child binds what has a gap for its place
 --     child-nodes, list-nodes        a child has no more nodes than the list
 --     trees-length        how many children a node has
-use Rattle.std.proofs.Common.{◌≡◌, ℕ, zero, suc, ◌<◌, ◌≤◌, [], ◌∷◌, List, Option, None, Some, refl, sym, ap, ◌∙◌}
-use Rattle.std.proofs.Common.{arith, get_or, map, length, take, true}
+use Rattle.std.proofs.Common.{◌≡◌, ℕ, zero, suc, ◌<◌, ◌≤◌, [], ◌∷◌, List, Option, None, Some, refl, ap, ◌∙◌}
+use Rattle.std.proofs.Common.{arith, get_or, map, length}
 use Rattle.std.specs.Cmp.{IsTotalOrder, Equal-is}
-use Rattle.std.specs.Ordering.{is_eq}
-use Rattle.std.specs.Prelude.{slice_get}
 use Rattle.std.specs.declared.cmp.Ordering.{Ordering}
 use Rattle.std.specs.declared.cmp.Ordering.TheVariants.{Equal}
-use Rattle.vc_tree_model.specs.Key.{same_key}
 use Rattle.vc_tree_model.specs.Tree.{Tree, Forest, grow, forest, node, trees, nodes, forest_nodes, width, forest_width}
 use Rattle.vc_tree_model.specs.Map.{or_else, lookup, lookup_in}
 use Rattle.vc_tree_model.specs.Canonical.{AreChildren}
 use Rattle.vc_tree_nodes.specs.Places.{child_first, BeginsAt, IsGapAt, IsFoundChild}
-use Rattle.vc_tree_model.proofs.KeyLemmas.{none-some}
 use Rattle.vc_tree_model.proofs.LookupLemmas.{lookup-other, lookup_in-above, above-equal}
 use Rattle.vc_tree_nodes.proofs.Firsts.{above-at, rest-children, child_first-map}
 
@@ -38,12 +34,6 @@ module _ {K V : Type 0} (cmp : K → K → Ordering) where
   gap-none o (grow (y ∷ p) v kids others) x (suc i) g rest = grind (arith, gap-none o others x i g.1 rest)
   gap-none o f x i g rest = grind arith
 
-  -- the first of these trees begins with x: the others do not
-  first-found : IsTotalOrder cmp → (p : List K) (v : Option V) (kids others : Forest K V) (y x : K) (rest : List K)
-      → AreChildren cmp (grow p v kids others) → slice_get p 0 ≡ Some y → cmp y x ≡ Equal
-      → lookup_in cmp (grow p v kids others) (x ∷ rest) ≡ lookup cmp (node p v kids) (x ∷ rest)
-  first-found o p v kids others y x rest a e h = grind (arith, lookup_in-above, above-equal)
-
   -- a later one begins with x: the first does not
   first-skipped : IsTotalOrder cmp
       → (p : List K) (v : Option V) (kids others : Forest K V) (i : ℕ) (y x : K) (rest : List K)
@@ -54,12 +44,9 @@ module _ {K V : Type 0} (cmp : K → K → Ordering) where
   module _ {T : Type 0} (tree : T → Tree K V) where
     -- where a child begins with x there is one
     pub begins-below : (xs : List T) (x : K) (i : ℕ) → BeginsAt cmp (forest (map tree xs)) x i → i < length xs
-    begins-below xs x i b = by xs i b.at
-      where
-        by : (xs : List T) (i : ℕ) → child_first (forest (map tree xs)) i ≡ Some b.here → i < length xs
-        by [] i e = none-some b.here e
-        by (t ∷ ts) zero e = omega arith
-        by (t ∷ ts) (suc i) e = let h = by ts i e in omega (arith, h)
+    begins-below (t ∷ ts) x (suc i) b =
+        grind (arith, begins-below ts x i (record { here = b.here; at = b.at; equal = b.equal }))
+    begins-below xs x i b = grind (arith, b.at)
 
     -- a child has no more nodes than the list
     pub child-nodes : (xs : List T) (i : ℕ) (d : T) → i < length xs
@@ -77,30 +64,22 @@ module _ {K V : Type 0} (cmp : K → K → Ordering) where
     pub lookup_in-at : IsTotalOrder cmp → (xs : List T) (i : ℕ) (d : T) (y x : K) (rest : List K)
         → AreChildren cmp (forest (map tree xs)) → child_first (forest (map tree xs)) i ≡ Some y → cmp y x ≡ Equal
         → lookup_in cmp (forest (map tree xs)) (x ∷ rest) ≡ lookup cmp (tree (get_or xs i d)) (x ∷ rest)
-    lookup_in-at o [] i d y x rest a e h = none-some y e
-    lookup_in-at o (t ∷ ts) zero d y x rest a e h = grind (arith, first-found)
     lookup_in-at o (t ∷ ts) (suc i) d y x rest a e h =
         ap (λ m. or_else m (lookup_in cmp (forest (map tree ts)) (x ∷ rest)))
         (first-skipped o (tree t).prefix (tree t).value (tree t).children (forest (map tree ts)) i y x rest a e h)
         ∙ lookup_in-at o ts i d y x rest (rest-children cmp (tree t).prefix (tree t).value (tree t).children
         (forest (map tree ts)) a) e h
-
-    -- it begins with a component equal to x
-    begins-at : (p : List K) (y x : K) → slice_get p 0 ≡ Some y → is_eq (cmp y x) ≡ true
-        → same_key cmp (take 1 p) (x ∷ []) ≡ true
-    begins-at p y x e h = grind arith
+    lookup_in-at o xs i d y x rest a e h = grind (arith, lookup_in-above, above-equal)
 
     -- it is found
     pub found-at : IsTotalOrder cmp → (xs : List T) (i : ℕ) (x : K) (child : T)
         → AreChildren cmp (forest (map tree xs)) → BeginsAt cmp (forest (map tree xs)) x i → child ≡ get_or xs i child
         → IsFoundChild cmp (forest (map tree xs)) x (tree child)
-    found-at o xs i x child a b e = record {
-      begins =
-          begins-at (tree child).prefix b.here x (ap (λ t. slice_get (tree t).prefix 0) e
-          ∙ sym (child_first-map cmp tree xs i child (begins-below xs x i b)) ∙ b.at) b.equal;
-      same =
-          λ rest. lookup_in-at o xs i child b.here x rest a b.at ((Equal-is (cmp b.here x)).0 b.equal) ∙ ap
-          (λ t. lookup cmp (tree t) (x ∷ rest)) (sym e);
-      smaller = rw e (child-nodes xs i child (begins-below xs x i b));
-      narrower = rw e (child-width xs i child (begins-below xs x i b));
-    }
+    found-at o xs i x child a b e =
+        let within = begins-below xs x i b in
+        record {
+          begins = grind (arith, child_first-map cmp tree xs i child within, b.at, b.equal);
+          same = λ rest. rw e (lookup_in-at o xs i child b.here x rest a b.at ((Equal-is (cmp b.here x)).0 b.equal));
+          smaller = rw e (child-nodes xs i child within);
+          narrower = rw e (child-width xs i child within);
+        }

@@ -1,14 +1,13 @@
 -- What an insertion keeps of the shape of a tree.
 --     alike-first        the first components of lists that are alike
---     solid-whole, not-bare_solid        a value or at least two children
+--     not-bare_solid        a value or at least two children
 --     solid-insert, children-insert, gap-within, gap-alike        one more tree of a list
 --     solid-length, children-set, alike-set        one tree of a list is changed
-use Rattle.std.proofs.Common.{◌≡◌, ℕ, zero, suc, ◌≤◌, [], ◌∷◌, List, Option, None, Some, refl}
+use Rattle.std.proofs.Common.{◌≡◌, ℕ, zero, suc, ◌≤◌, [], ◌∷◌, List, Option, None, Some}
 use Rattle.std.proofs.Common.{arith, false, get_or, set, map, take, length}
 use Rattle.std.specs.List.{insert}
 use Rattle.std.specs.Prelude.{slice_get}
 use Rattle.std.specs.declared.cmp.Ordering.{Ordering}
-use Rattle.std.specs.declared.cmp.Ordering.TheVariants.{Less}
 use Rattle.vc_tree_model.specs.Tree.{Tree, Forest, bare, grow, forest, node, is_bare}
 use Rattle.vc_tree_model.specs.Canonical.{IsSolid, IsWhole, AllAbove, AreChildren, IsCanonical}
 use Rattle.vc_tree_model.specs.Same.{IsAlike, IsAlikeIn}
@@ -25,10 +24,6 @@ module _ {K V : Type 0} (keeps : V → V → Type 0) where
 
 module _ {K V : Type 0} where
   -- ---- a value or at least two children
-
-  -- what is solid may be the whole tree
-  pub solid-whole : (p : List K) (v : Option V) (f : Forest K V) → IsSolid v f → IsWhole p v f
-  solid-whole p v f s = grind arith
 
   -- the whole tree is solid where it is not the empty one
   pub not-bare_solid : (t : Tree K V) → IsWhole t.prefix t.value t.children → is_bare t ≡ false → IsSolid t.value t.children
@@ -51,15 +46,14 @@ module _ {K V : Type 0} where
     -- as many trees are as solid
     pub solid-length : (v : Option V) (xs ys : List T) → length xs ≡ length ys → IsSolid v (forest (map tree xs))
         → IsSolid v (forest (map tree ys))
-    solid-length (Some v) xs ys e s = tt
-    solid-length None (x ∷ x' ∷ xs) (y ∷ y' ∷ ys) e s = tt
+    solid-length v (x ∷ x' ∷ xs) (y ∷ y' ∷ ys) e s = grind arith
     solid-length v xs ys e s = grind arith
 
   module _ (cmp : K → K → Ordering) where
     -- a tree that is solid over canonical children is canonical
     pub solid-canonical : (p : List K) (v : Option V) (f : Forest K V) → IsSolid v f → AreChildren cmp f
         → IsCanonical cmp (node p v f)
-    solid-canonical p v f s a = (solid-whole p v f s, a)
+    solid-canonical p v f s a = grind arith
 
     -- ---- one more tree of a list
 
@@ -71,77 +65,58 @@ module _ {K V : Type 0} where
         grind (arith, gap-alike keeps rest others x i)
     gap-alike keeps f g x i a gap = grind arith
 
-    -- a place behind the first tree is one among the others
-    gap-later : (p : List K) (v : Option V) (kids rest : Forest K V) (x : K) (i : ℕ)
-        → IsGapAt cmp (grow p v kids rest) x (suc i) → IsGapAt cmp rest x i
-    gap-later p v kids rest x i gap = grind arith
-
     -- canonical children stay so where the later ones do
-    children-later : (p : List K) (v : Option V) (kids rest more : Forest K V)
+    pub children-later : (p : List K) (v : Option V) (kids rest more : Forest K V)
         → ((y : K) → slice_get p 0 ≡ Some y → AllAbove cmp y rest → AllAbove cmp y more)
         → (AreChildren cmp rest → AreChildren cmp more) → AreChildren cmp (grow p v kids rest)
         → AreChildren cmp (grow p v kids more)
     children-later p v kids rest more h k a = grind arith
 
-    -- what a tree begins with is below a place behind it
-    gap-first : (p : List K) (v : Option V) (kids rest : Forest K V) (x : K) (i : ℕ) (y : K)
-        → IsGapAt cmp (grow p v kids rest) x (suc i) → slice_get p 0 ≡ Some y → cmp y x ≡ Less
-    gap-first p v kids rest x i y gap e = grind arith
-
     module _ {T : Type 0} (tree : T → Tree K V) where
       -- a place among trees is within the list
       pub gap-within : (ts : List T) (x : K) (i : ℕ) → IsGapAt cmp (forest (map tree ts)) x i → i ≤ length ts
-      gap-within ts x zero gap = omega arith
-      gap-within [] x (suc i) gap = absurd gap
       gap-within (t ∷ ts) x (suc i) gap = grind (arith, gap-within ts x i)
+      gap-within [] x (suc i) gap = absurd gap
+      gap-within ts x zero gap = omega arith
 
       -- the trees and one more above x are above x
       above-insert : (x : K) (ts : List T) (i : ℕ) (item : T)
           → AllAbove cmp x (grow (tree item).prefix (tree item).value (tree item).children bare)
           → AllAbove cmp x (forest (map tree ts)) → AllAbove cmp x (forest (map tree (insert ts i item)))
-      above-insert x ts zero item a b = grind arith
-      above-insert x [] (suc i) item a b = a
       above-insert x (t ∷ ts) (suc i) item a b = grind (arith, above-insert x ts i item)
+      above-insert x [] (suc i) item a b = a
+      above-insert x ts zero item a b = grind arith
 
       -- canonical children and a leaf at its place are canonical children
       pub children-insert : (ts : List T) (i : ℕ) (item : T) (y : K) (q : List K) (value : V)
           → tree item ≡ node (y ∷ q) (Some value) bare → IsGapAt cmp (forest (map tree ts)) y i
           → AreChildren cmp (forest (map tree ts)) → AreChildren cmp (forest (map tree (insert ts i item)))
-      children-insert ts zero item y q value e gap a = grind arith
-      children-insert [] (suc i) item y q value e gap a = absurd gap
       children-insert (t ∷ ts) (suc i) item y q value e gap a =
-          grind (arith, children-insert ts i item y q value, children-later, above-insert, gap-first, gap-later)
+          grind (arith, children-insert ts i item y q value, children-later, above-insert)
+      children-insert [] (suc i) item y q value e gap a = absurd gap
+      children-insert ts zero item y q value e gap a = grind arith
 
       -- ---- one tree of a list is changed
 
       -- trees above x stay so where one goes on as it did
       above-set : (x : K) (ts : List T) (i : ℕ) (item d : T)
-          → slice_get (tree item).prefix 0 ≡ slice_get (tree (get_or ts i d)).prefix 0
+          → take 1 (tree item).prefix ≡ take 1 (tree (get_or ts i d)).prefix
           → AllAbove cmp x (forest (map tree ts)) → AllAbove cmp x (forest (map tree (set ts i item)))
       above-set x (t ∷ ts) (suc i) item d e a = grind (arith, above-set x ts i item d)
       above-set x ts i item d e a = grind arith
 
-      -- one component taken from two lists is the first of both
-      take-first : (p q : List K) → take 1 q ≡ take 1 p → slice_get q 0 ≡ slice_get p 0
-      take-first p q e = grind arith
-
       -- canonical children stay so where one of them grows
       pub children-set : (ts : List T) (i : ℕ) (item d : T) → IsGrown cmp 1 (tree (get_or ts i d)) (tree item)
           → AreChildren cmp (forest (map tree ts)) → AreChildren cmp (forest (map tree (set ts i item)))
-      children-set [] i item d g a = a
-      children-set (t ∷ ts) zero item d g a = grind arith
       children-set (t ∷ ts) (suc i) item d g a =
           children-later (tree t).prefix (tree t).value (tree t).children (forest (map tree ts))
-          (forest (map tree (set ts i item)))
-          (λ z f. above-set z ts i item d (take-first (tree (get_or ts i d)).prefix (tree item).prefix g.begins))
-          (children-set ts i item d g) a
+          (forest (map tree (set ts i item))) (λ z f. above-set z ts i item d g.begins) (children-set ts i item d g) a
+      children-set ts i item d g a = grind arith
 
   -- a list of trees is alike where one is put in the place of one that is alike
   pub alike-set : (keeps : V → V → Type 0) → ((v : V) → keeps v v)
       → {T : Type 0} (tree : T → Tree K V) (ts : List T) (i : ℕ) (item d : T)
       → IsAlike keeps (tree (get_or ts i d)) (tree item)
       → IsAlikeIn keeps (forest (map tree ts)) (forest (map tree (set ts i item)))
-  alike-set keeps r tree [] i item d h = tt
-  alike-set keeps r tree (t ∷ ts) zero item d h = (h.0, h.1, h.2, alike_refl keeps r (forest (map tree ts)))
-  alike-set keeps r tree (t ∷ ts) (suc i) item d h =
-      (refl, kept_itself keeps r (tree t).value, alike_refl keeps r (tree t).children, alike-set keeps r tree ts i item d h)
+  alike-set keeps r tree (t ∷ ts) (suc i) item d h = grind (arith, alike-set keeps r tree ts i item d, alike_refl, kept_itself)
+  alike-set keeps r tree ts i item d h = grind (arith, alike_refl)

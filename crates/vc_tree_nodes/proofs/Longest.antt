@@ -5,7 +5,7 @@
 --     left-within        no more of the path is left below a node than at it
 --     found-value, found-longest        what was found is the cover, and the longest key by its length
 --     covers-empty, covers-none, covers-child        what children cover of what is left of a path
-use Rattle.std.proofs.Common.{◌≡◌, ℕ, ◌+◌, ◌-◌, ◌≤◌, [], ◌∷◌, List, Option, None, Some, true, length, take, refl, sym}
+use Rattle.std.proofs.Common.{◌≡◌, ℕ, ◌+◌, ◌-◌, ◌≤◌, [], ◌∷◌, List, Option, None, Some, length, take, refl, sym}
 use Rattle.std.proofs.Common.{ap, ◌∙◌, arith}
 use Rattle.std.specs.Borrow.{Bor}
 use Rattle.std.specs.Option.{option_map}
@@ -14,20 +14,16 @@ use Rattle.std.specs.Prelude.{slice_get, IfSome}
 use Rattle.std.specs.declared.cmp.Ordering.{Ordering}
 use Rattle.vc_tree_model.specs.Canonical.{AreChildren}
 use Rattle.vc_tree_model.specs.Cover.{cover, IsLongestCover}
-use Rattle.vc_tree_model.specs.Key.{behind, same_key}
+use Rattle.vc_tree_model.specs.Key.{behind}
 use Rattle.vc_tree_model.specs.Map.{or_else, node_lookup, lookup, lookup_in}
 use Rattle.vc_tree_model.specs.Sized.{beside, sized}
-use Rattle.vc_tree_model.specs.Tree.{Tree, Forest, node}
+use Rattle.vc_tree_model.specs.Tree.{Tree, Forest}
 use Rattle.vc_tree_model.proofs.CoverNodes.{cover-equal, cover-node, cover-none, cover-below, node_cover}
 use Rattle.vc_tree_model.proofs.KeyLemmas.{none-some}
 use Rattle.vc_tree_model.proofs.LookupLemmas.{children-ordered, lookup_in-empty, lookup-same}
 use Rattle.vc_tree_model.proofs.LongestKeys.{cover-value, longest-at}
 use Rattle.vc_tree_nodes.specs.Places.{IsFoundChild, IsNoChild}
 use Rattle.vc_tree_nodes.proofs.Descending.{behind-length}
-
--- of three the first that is there
-else-assoc : {W : Type 0} (a b c : Option W) → or_else (or_else a b) c ≡ or_else a (or_else b c)
-else-assoc a b c = grind arith
 
 -- no more is left of the path behind a prefix of the rest
 pub left-within : {K : Type 0} (cmp : K → K → Ordering) (path rest p left : List K) → length rest ≤ length path
@@ -53,19 +49,15 @@ module _ {K W : Type 0} (cmp : K → K → Ordering) where
   sized-node n v f p k = by (behind cmp p k) refl
     where
       by : (left : Option (List K)) → behind cmp p k ≡ left
-          → beside (n + length k) (node_lookup v f left)
-          ≡ node_lookup (beside (n + length p) v) (sized (n + length p) f) left
+          → beside (n + length k) (node_lookup v f left) ≡ node_lookup (beside (n + length p) v) (sized (n + length p) f) left
       by None e = refl
       by (Some []) e =
-          let long = behind-length cmp p k [] e in
-          let same : n + length k ≡ n + length p = omega (arith, long) in
-          ap (λ m. beside m v) same
+          let same : n + length k ≡ n + length p = omega (arith, behind-length cmp p k [] e) in rw same refl
       by (Some (x ∷ rest)) e =
-          let long = behind-length cmp p k (x ∷ rest) e in
-          let same : n + length k ≡ n + length p + length (x ∷ rest) = omega (arith, long) in
-          ap (λ m. beside m (f (x ∷ rest))) same
+          let same : n + length k ≡ n + length p + length (x ∷ rest) = omega (arith, behind-length cmp p k (x ∷ rest) e) in
+          rw same refl
 
-  module _ (whole t : Tree K W) (path rest p : List K) (longest : Option (ℕ × W)) (h : Decides whole path t rest longest)
+  module _ {whole t : Tree K W} {path rest p : List K} {longest : Option (ℕ × W)} (h : Decides whole path t rest longest)
       (ep : p ≡ t.prefix) (a : AreChildren cmp t.children) where
     -- so many components of the path stand above the node
     abbrev above : ℕ
@@ -80,33 +72,23 @@ module _ {K W : Type 0} (cmp : K → K → Ordering) where
         let own = beside m t.value in
         let below = sized m (lookup_in cmp t.children) in
         let empty : below [] ≡ None = ap (beside (m + 0)) (lookup_in-empty cmp t.children (children-ordered cmp t.children a)) in
-        cover-equal (sized above (lookup cmp t)) (λ r. node_lookup own below (behind cmp t.prefix r))
-        (sized-node above t.value (lookup_in cmp t.children) t.prefix) rest
-        ∙ cover-node cmp own below empty t.prefix rest
-        ∙ ap (node_cover own below) (ap (λ q. behind cmp q rest) (sym ep) ∙ e)
+        rw (← e, ep) (cover-equal (sized above (lookup cmp t)) (λ r. node_lookup own below (behind cmp t.prefix r))
+        (sized-node above t.value (lookup_in cmp t.children) t.prefix) rest ∙ cover-node cmp own below empty t.prefix rest)
 
     -- the prefix is not one of the rest: the keys above decide
     pub decided-above : behind cmp p rest ≡ None → longest ≡ cover (sized 0 (lookup cmp whole)) path
-    decided-above e = sym (h.decides ∙ ap (λ o. or_else o longest) (covered None e))
+    decided-above e = grind (arith, h.decides, covered None e)
 
     -- what is below the node decides, or else its own key, or else one above it
-    pub decided-below : (left : List K) (kids : Forest K W) (next below : Option (ℕ × W)) → behind cmp p rest ≡ Some left
+    pub decided-below : {left : List K} {kids : Forest K W} {next below : Option (ℕ × W)} → behind cmp p rest ≡ Some left
         → kids ≡ t.children → next ≡ or_else (beside (length path - length left) t.value) longest
         → cover (sized (length path - length left) (lookup_in cmp kids)) left ≡ below
         → cover (sized 0 (lookup cmp whole)) path ≡ or_else below next
-    decided-below left kids next below e ek en eb =
+    decided-below {left} e ek en eb =
         let long = behind-length cmp p rest left e in
-        let same = ap length ep in
-        let place : above + length t.prefix ≡ length path - length left = omega (arith, long, same, h.within) in
-        let own = beside (length path - length left) t.value in
-        let under = sized (length path - length left) (lookup_in cmp t.children) in
-        h.decides
-        ∙ ap (λ o. or_else o longest) (covered (Some left) e
-        ∙ ap (λ m. or_else (cover (sized m (lookup_in cmp t.children)) left) (beside m t.value)) place)
-        ∙ else-assoc (cover under left) own longest
-        ∙ ap (λ o. or_else o (or_else own longest))
-        (ap (λ f. cover (sized (length path - length left) (lookup_in cmp f)) left) (sym ek) ∙ eb)
-        ∙ ap (or_else below) (sym en)
+        let place : above + length t.prefix ≡ length path - length left = omega (arith, long, ap length ep, h.within) in
+        let at = rw place at (covered (Some left) e) in
+        grind (arith, h.decides, at)
 
   module _ (f : Forest K W) (a : AreChildren cmp f) (n : ℕ) where
     -- children bind no empty key
@@ -129,16 +111,8 @@ module _ {K W : Type 0} (cmp : K → K → Ordering) where
         → cover (sized n (lookup_in cmp f)) path ≡ cover (sized n (lookup cmp child)) path
     covers-child x [] child e found = none-some x e
     covers-child x (y ∷ others) child e found =
-        let first : y ≡ x = cc in
         cover-below (sized n (lookup_in cmp f)) (sized n (lookup cmp child)) y others none-empty
-        (ap (beside (n + 0)) (no-empty child.prefix found.begins))
-        (λ r. ap (beside (n + length (y ∷ r)))
-        (ap (λ z. lookup_in cmp f (z ∷ r)) first ∙ found.same r ∙ ap (λ z. lookup cmp child (z ∷ r)) (sym first)))
-      where
-        no-empty : (p : List K) → same_key cmp (take 1 p) (x ∷ []) ≡ true
-            → lookup cmp (node p child.value child.children) [] ≡ None
-        no-empty [] b = cc
-        no-empty (y ∷ p) b = refl
+        (grind (arith, found.begins)) (λ r. grind (arith, found.same r))
 
 module _ {K W : Type 0} (cmp : K → K → Ordering) (o : IsTotalOrder cmp) (t : Tree K W) (path : List K) where
   -- what was found covers the path

@@ -3,22 +3,21 @@
 --     updated-value, updated-children, updated-split        a change of a node's value, of its children, or of a split node
 --     updated-insert, updated-set        one more tree of a list, or one that is changed
 --     updated-alike, updated-respelled        a change of what is alike, and of an equal key
-use Rattle.std.proofs.Common.{◌≡◌, ℕ, zero, suc, ◌<◌, [], ◌∷◌, ◌++◌, List, Option, None, Some, refl, sym, ap, subst}
-use Rattle.std.proofs.Common.{◌∙◌, arith, true, false, cond, get_or, set, map, length}
+use Rattle.std.proofs.Common.{◌≡◌, ℕ, zero, suc, ◌<◌, [], ◌∷◌, ◌++◌, List, Option, None, Some, refl}
+use Rattle.std.proofs.Common.{arith, true, cond, get_or, set, map, length}
 use Rattle.std.specs.Cmp.{IsTotalOrder, Equal-is}
 use Rattle.std.specs.Cmp.Lexicographic.{slice_cmp, lists_total}
 use Rattle.std.specs.List.{insert}
-use Rattle.std.specs.Ordering.{is_eq}
 use Rattle.std.specs.Prelude.{slice_get}
 use Rattle.std.specs.declared.cmp.Ordering.{Ordering}
 use Rattle.std.specs.declared.cmp.Ordering.TheVariants.{Less, Equal}
 use Rattle.vc_tree_model.specs.Key.{same_key}
 use Rattle.vc_tree_model.specs.Value.{IsKept}
 use Rattle.vc_tree_model.specs.Tree.{Tree, Forest, bare, grow, forest, node}
-use Rattle.vc_tree_model.specs.Map.{or_else, node_lookup, lookup, lookup_in, IsUpdated}
+use Rattle.vc_tree_model.specs.Map.{lookup, lookup_in, IsUpdated}
 use Rattle.vc_tree_model.specs.Canonical.{AreChildren}
 use Rattle.vc_tree_nodes.specs.Places.{child_first, IsGapAt}
-use Rattle.vc_tree_model.proofs.KeyLemmas.{none-some, then_same, then_behind, behind-append, same-append}
+use Rattle.vc_tree_model.proofs.KeyLemmas.{none-some, behind-append, same-append}
 use Rattle.vc_tree_model.proofs.KeyLemmas.{same-slice_cmp}
 use Rattle.vc_tree_model.proofs.ValueLemmas.{kept-refl, kept-else}
 use Rattle.vc_tree_nodes.proofs.Firsts.{above-at, rest-children}
@@ -28,19 +27,10 @@ module _ {K V : Type 0} (cmp : K → K → Ordering) (keeps : V → V → Type 0
 
   module _ (rest : List K) (value : V) (tail : List K) (v w : Option V) (f g : Forest K V)
       (u : IsUpdated cmp keeps rest value (lookup cmp (node tail v f)) (lookup cmp (node [] w g))) where
-    -- the new value behind a prefix
-    at-left : (o : Option (List K)) → then_same cmp rest o ≡ true → node_lookup w (lookup_in cmp g) o ≡ Some value
-    at-left o s = grind arith
-
-    -- the other values behind a prefix
-    others-left : (o : Option (List K)) → then_same cmp rest o ≡ false
-        → IsKept keeps (node_lookup v (lookup_in cmp f) (then_behind cmp tail o)) (node_lookup w (lookup_in cmp g) o)
-    others-left o s = grind arith
-
     -- a change behind a prefix is one of the key with the prefix before it
     pub updated-behind : (p q key : List K) → q ≡ p ++ tail → key ≡ p ++ rest
         → IsUpdated cmp keeps key value (lookup cmp (node q v f)) (lookup cmp (node p w g))
-    updated-behind p q key d e = grind (arith, at-left, same-append, behind-append, others-left)
+    updated-behind p q key d e = grind (arith, same-append, behind-append)
 
   -- ---- one node
 
@@ -76,12 +66,8 @@ module _ {K V : Type 0} (cmp : K → K → Ordering) (keeps : V → V → Type 0
     insert-first : (y : K) (q : List K) (value : V) (f : Forest K V)
         → IsUpdated cmp keeps (y ∷ q) value (lookup_in cmp f) (lookup_in cmp (grow (y ∷ q) (Some value) bare f))
     insert-first y q value f = record {
-      at =
-          λ k s. ap (λ m. or_else m (lookup_in cmp f k)) (lookup-leaf (y ∷ q) k value ∙ ap (λ b. cond b (Some value) None) s);
-      others = λ k s.
-          subst (λ m. IsKept keeps (lookup_in cmp f k) (or_else m (lookup_in cmp f k)))
-          (sym (lookup-leaf (y ∷ q) k value ∙ ap (λ b. cond b (Some value) None) s))
-          (kept-refl keeps r (lookup_in cmp f k));
+      at = λ k s. grind (arith, lookup-leaf (y ∷ q) k value);
+      others = λ k s. grind (arith, lookup-leaf (y ∷ q) k value, kept-refl);
     }
 
     -- a change of the later trees, which begin above the first
@@ -119,13 +105,9 @@ module _ {K V : Type 0} (cmp : K → K → Ordering) (keeps : V → V → Type 0
       → IsUpdated cmp keeps key value g h → IsUpdated cmp keeps key value f h
   updated-alike t key value f g h kept u = grind arith
 
-  -- equal keys are equal to the same keys
-  same-congr : IsTotalOrder cmp → (j key k : List K) → same_key cmp j key ≡ true → same_key cmp j k ≡ same_key cmp key k
-  same-congr o j key k s =
-      let e : slice_cmp cmp j key ≡ Equal = (Equal-is (slice_cmp cmp j key)).0 (sym (same-slice_cmp cmp j key) ∙ s) in
-      same-slice_cmp cmp j k ∙ ap is_eq ((lists_total o).congr j key k e) ∙ sym (same-slice_cmp cmp key k)
-
   -- an equal key is changed alike
   pub updated-respelled : IsTotalOrder cmp → (j key : List K) (value : V) (f g : List K → Option V)
       → same_key cmp j key ≡ true → IsUpdated cmp keeps j value f g → IsUpdated cmp keeps key value f g
-  updated-respelled o j key value f g s u = grind (arith, same-congr)
+  updated-respelled o j key value f g s u =
+      let congr = λ (k : List K). (lists_total o).congr j key k ((Equal-is (slice_cmp cmp j key)).0 (rw same-slice_cmp at s)) in
+      grind (arith, same-slice_cmp cmp j, same-slice_cmp cmp key, congr)

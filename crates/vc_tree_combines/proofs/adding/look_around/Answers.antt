@@ -1,5 +1,5 @@
 -- The place of the tree, and the trees on both sides of it.
-use Rattle.std.proofs.Common.{arith}
+use Rattle.std.proofs.Common.{arith, rules}
 use Rattle.vc_tree_nodes.proofs.Finding.{begins-below}
 use Rattle.vc_tree_nodes.proofs.Growing.{gap-within}
 use Rattle.vc_tree_combines.proofs.Around.{around-found, around-gap}
@@ -11,7 +11,7 @@ split_at-requires g c =
     omega (arith, h)
 
 pub split_at-requires-in-Err : goal.split_at-requires-in-Err
-split_at-requires-in-Err g c = gap-within g.K.Ord.cmp g.T.RadixNode.tree c.args.trees.now c.args.first.now c.in-Err.at c.in-Err.ensures.place
+split_at-requires-in-Err g c = search (rules, gap-within)
 
 pub returns-in-Some-clause-around : goal.returns-in-Some-clause-around
 returns-in-Some-clause-around g c =
@@ -27,5 +27,5 @@ returns-in-None-clause-around g c =
 
 pub returns-in-Err-clause-around : goal.returns-in-Err-clause-around
 returns-in-Err-clause-around g c =
-    around-gap g.K.Ord.cmp g.T.RadixNode.tree c.args.first.now g.met.K.Ord.total c.args.trees.now c.in-Err.at c.in-Err.ensures.place
-    c.split_at-in-Err.ensures.front c.split_at-in-Err.ensures.back
+    around-gap g.K.Ord.cmp g.T.RadixNode.tree c.args.first.now g.met.K.Ord.total c.args.trees.now c.in-Err.at
+    c.in-Err.ensures.place c.split_at-in-Err.ensures.front c.split_at-in-Err.ensures.back

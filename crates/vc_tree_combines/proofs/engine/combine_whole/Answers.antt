@@ -3,7 +3,6 @@ use Rattle.std.proofs.Common.{[], rules}
 use Rattle.vc_tree_model.specs.Look.{values}
 use Rattle.vc_tree_model.specs.Tree.{shortened}
 use Rattle.vc_tree_facing.proofs.Ending.{front-asked}
-use Rattle.vc_tree_facing.proofs.Leaving.{if-ok}
 use Rattle.vc_tree_combines.proofs.Shapes.{below-made}
 use Rattle.vc_tree_combines.proofs.engine.combine_whole.Goals as goal
 

@@ -2,12 +2,12 @@ use Rattle.std.proofs.Common.{refl, ap, take}
 use Rattle.vc_tree_model.specs.Child.{solid_child}
 use Rattle.vc_tree_nodes.specs.Children.{seen}
 use Rattle.vc_tree_facing.proofs.Opening.{slice-from}
-use Rattle.vc_tree_combines.proofs.Runs.{on-ok-too}
+use Rattle.vc_tree_combines.proofs.Runs.{on-ok}
 use Rattle.vc_tree_combines.proofs.engine.end_onto.Goals as goal
 
 pub returns : goal.returns
 returns g c =
-    on-ok-too c.finish_onto.result
+    on-ok c.finish_onto.result c.finish_onto.ensures
     (λ e. (
       _,
       record {
@@ -18,4 +18,3 @@ returns g c =
       },
       e,
     ))
-    c.finish_onto.ensures

@@ -1,10 +1,11 @@
 -- The trees that are left are alone.
-use Rattle.vc_tree_combines.proofs.Inside.{within-after, within-made}
+use Rattle.vc_tree_combines.proofs.Inside.{within-ended}
 use Rattle.vc_tree_combines.proofs.engine.end_within.Goals as goal
 
 pub add_lefts-requires : goal.add_lefts-requires
-add_lefts-requires g c = rw c.split_at.ensures.back (within-after c.requires.doing)
+add_lefts-requires g c = rw c.split_at.ensures.back (within-ended c.requires.doing).0
 
 pub returns : goal.returns
 returns g c =
-    within-made c.requires.doing _ (rw c.split_at.ensures.back at c.in_ok-add_lefts.ensures) (g.met.O.Combine.says_none c.args.op.now)
+    (within-ended c.requires.doing).1 _ (rw c.split_at.ensures.back at c.in_ok-add_lefts.ensures)
+    (g.met.O.Combine.says_none c.args.op.now)

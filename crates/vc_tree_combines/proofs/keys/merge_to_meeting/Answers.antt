@@ -1,7 +1,7 @@
 -- What a merge that stops at two trees that begin alike has passed.
 use Rattle.std.proofs.Common.{refl, inl, inr}
 use Rattle.vc_tree_facing.proofs.Next.{nil-by}
-use Rattle.vc_tree_combines.proofs.Passing.{passed, children-ascend, told-missed, told-meeting, told-end}
+use Rattle.vc_tree_combines.proofs.Passing.{children-ascend, told-missed, told-meeting, told-end}
 use Rattle.vc_tree_combines.proofs.keys.merge_to_meeting.Goals as goal
 
 pub merge-never_refused-requires-clause-ascend : goal.merge-never_refused-requires-clause-ascend
@@ -12,27 +12,23 @@ merge-never_refused-requires-clause-ascend g c = record {
 
 pub returns-then-tails : goal.returns-then-tails
 returns-then-tails g c =
-    told-missed g.K.Ord.cmp g.met.K.Ord.total g.A.RadixNode.tree g.B.RadixNode.tree (λ s. s.left.now) (λ s. s.right.now)
-    (λ s. s.missed) c.args.shared _ _ c.requires.left c.requires.right
-    (passed _ refl c.merge-never_refused.ensures.merged) c.if-tails.true
+    told-missed g.met.K.Ord.total g.A.RadixNode.tree g.B.RadixNode.tree _ _ _ _ _ _ refl
+    c.requires.left c.requires.right _ c.merge-never_refused.ensures.merged c.if-tails.true
 
 pub returns-in_default : goal.returns-in_default
 returns-in_default g c =
-    told-end g.K.Ord.cmp g.met.K.Ord.total g.A.RadixNode.tree g.B.RadixNode.tree (λ s. s.left.now) (λ s. s.right.now)
-    (λ s. s.missed) c.args.shared _ _ c.requires.left c.requires.right
-    (passed _ refl c.merge-never_refused.ensures.merged) c.if-tails.false
+    told-end g.met.K.Ord.total g.A.RadixNode.tree g.B.RadixNode.tree _ _ _ _ _ _ refl
+    c.requires.left c.requires.right _ c.merge-never_refused.ensures.merged c.if-tails.false
     (inl (nil-by _ c.in_default.ensures.cases))
 
 pub returns-in_default-split_first : goal.returns-in_default-split_first
 returns-in_default-split_first g c =
-    told-end g.K.Ord.cmp g.met.K.Ord.total g.A.RadixNode.tree g.B.RadixNode.tree (λ s. s.left.now) (λ s. s.right.now)
-    (λ s. s.missed) c.args.shared _ _ c.requires.left c.requires.right
-    (passed _ refl c.merge-never_refused.ensures.merged) c.if-tails.false
+    told-end g.met.K.Ord.total g.A.RadixNode.tree g.B.RadixNode.tree _ _ _ _ _ _ refl
+    c.requires.left c.requires.right _ c.merge-never_refused.ensures.merged c.if-tails.false
     (inr (nil-by _ c.in_default-split_first.ensures.cases))
 
 pub returns : goal.returns
 returns g c =
-    told-meeting g.K.Ord.cmp g.met.K.Ord.total g.A.RadixNode.tree g.B.RadixNode.tree (λ s. s.left.now) (λ s. s.right.now)
-    (λ s. s.missed) c.args.shared _ _ c.requires.left c.requires.right
-    (passed _ refl c.merge-never_refused.ensures.merged) _ _ _ _ c.if-tails.false c.in-Some.ensures.cases.0
-    c.in-Some-split_first.ensures.cases.0
+    told-meeting g.met.K.Ord.total g.A.RadixNode.tree g.B.RadixNode.tree _ _ _ _ _ _ refl
+    c.requires.left c.requires.right _ c.merge-never_refused.ensures.merged _ _ _ _ c.if-tails.false
+    c.in-Some.ensures.cases.0 c.in-Some-split_first.ensures.cases.0

@@ -1,19 +1,17 @@
 -- Each call goes to trees that are below, and what is made below makes the node.
-use Rattle.std.proofs.Common.{◌<◌, ◌+◌, ◌*◌, ◌∙◌, rules, arith, refl, sym, ap, subst}
+use Rattle.std.proofs.Common.{◌<◌, ◌+◌, ◌*◌, rules, arith, refl}
 use Rattle.std.proofs.lemmas.List.{take_rest}
-use Rattle.vc_tree_model.specs.Look.{values}
 use Rattle.vc_tree_model.specs.Tree.{nodes, forest_nodes}
 use Rattle.vc_tree_nodes.specs.Children.{seen}
 use Rattle.vc_tree_facing.specs.Facing.{shortened_in}
 use Rattle.vc_tree_facing.proofs.Leaving.{if-ok}
 use Rattle.vc_tree_facing.proofs.Next.{meets, left-fewer, right-fewer}
-use Rattle.vc_tree_edits.specs.Appended.{IsAppendedAt}
-use Rattle.vc_tree_edits.specs.Taken.{IsCombinedBelow}
-use Rattle.vc_tree_edits.specs.Woven.{woven}
 use Rattle.vc_tree_edits.proofs.Appended.{turned-appended, fewer-taken, stands-apart_below}
-use Rattle.vc_tree_edits.proofs.Appended.{children-taken, finished-both, met-done}
+use Rattle.vc_tree_edits.proofs.Appended.{children-taken, kept-appended, met-taken, made-alike, met-done}
 use Rattle.vc_tree_edits.proofs.Placed.{set-again, made-back}
-use Rattle.vc_tree_edits.proofs.Sifted.{pair-end, pair-within, pair-next, pair-done, pair-places}
+use Rattle.vc_tree_edits.proofs.Sifted.{woven-end, pair-within, pair-next, pair-done}
+use Rattle.vc_tree_edits.proofs.Stepping.{made-of}
+use Rattle.vc_tree_edits.specs.Appended.{IsAppendedAt}
 use Rattle.vc_tree_edits.proofs.appending.+appending.Goals as goal
 
 -- ---- a node
@@ -34,8 +32,13 @@ append_at-append_below-requires g t c κs inside =
 
 pub append_at-returns : goal.append_at-returns
 append_at-returns g t c =
-    finished-both g.met.T.Build.keeps_trans c.args.tree c.args.that _ c.split-front.ensures c.in_ok-prefix.ensures.taken
-    c.in_ok-other.ensures.taken c.args.right_wins c.choose_value-value.ensures _ c.in_ok-kids.ensures c.in_ok-made.ensures
+    let s = c.split-front.ensures in
+    let other = c.in_ok-other.ensures.taken in
+    let says = IsAppendedAt g.T.Build.keeps c.args.right_wins in
+    made-alike g.met.T.Build.keeps_trans c.args.right_wins other.alike
+    (made-of {says = says} {R = says} c.in_ok-prefix.ensures.taken (met-taken c.args.tree c.args.that s other) s.total tt
+    (kept-appended g.T.Build.keeps g.met.T.Build.keeps_trans c.args.right_wins)
+    (rw other.value_is at c.choose_value-value.ensures) (λ v w z a. a) _ c.in_ok-kids.ensures c.in_ok-made.ensures)
 
 -- ---- by what is below
 
@@ -80,35 +83,25 @@ append_below-returns-else-len g t c =
 pub append_list-weave-requires : goal.append_list-weave-requires
 append_list-weave-requires g t c =
     let p = rw (c.deref.ensures.value, take_rest c.pairs.list.items c.pairs.at) at c.in_ok-passed.ensures.next in
-    let noted =
-    met-done g.met.T.Build.keeps_refl c.pairs.invariant p c.pass-kept.new.list.items c.pass-kept.result c.pass-kept.ensures.built
-    c.pass-kept.ensures.rest in
+    let passed = c.pass-kept.ensures in
+    let noted = met-done g.met.T.Build.keeps_refl c.pairs.invariant p _ _ passed.built passed.rest in
     rw c.truncate.ensures.items (record { within = noted.1 })
 
 pub append_list-returns-in_default : goal.append_list-returns-in_default
 append_list-returns-in_default g t c =
     let p = rw (c.deref.ensures.value, take_rest c.pairs.list.items c.pairs.at) at c.in_ok-passed.ensures.next in
-    let noted =
-    met-done g.met.T.Build.keeps_refl c.pairs.invariant p c.pass-kept.new.list.items c.pass-kept.result c.pass-kept.ensures.built
-    c.pass-kept.ensures.rest in
-    let all =
-    pair-end c.pairs.list.items c.pairs.at p.pair c.pass-kept.new.list.items c.pass-kept.ensures.rest c.in_default.is tt
-    noted.0 in
-    let now = ap (λ ks. woven 0 ks c.in_ok-passed.field-0.right.comers.items) c.truncate.ensures.items in
+    let passed = c.pass-kept.ensures in
+    let noted = met-done g.met.T.Build.keeps_refl c.pairs.invariant p _ _ passed.built passed.rest in
     if-ok c.weave.result
-    (λ kids e. subst (λ ks. IsCombinedBelow g.K.Ord.cmp (values g.K.Ord.cmp) (IsAppendedAt g.T.Build.keeps c.args.right_wins)
-    (seen g.T.RadixNode.tree c.args.list.items) (shortened_in g.T.RadixNode.tree c.args.from c.args.others.items)
-    (seen g.T.RadixNode.tree ks)) (sym (e ∙ now)) all) c.weave.ensures
+    (λ kids e. woven-end _ _ p.pair _ passed.rest c.in_ok-passed.field-0.right.comers.items c.in_default.is tt noted.0
+    c.truncate.ensures.items e) c.weave.ensures
 
 pub append_list-append_at-requires : goal.append_list-append_at-requires
 append_list-append_at-requires g t c κs inside =
     let p = rw (c.deref.ensures.value, take_rest c.pairs.list.items c.pairs.at) at c.in_ok-passed.ensures.next in
-    let noted =
-    met-done g.met.T.Build.keeps_refl c.pairs.invariant p c.pass-kept.new.list.items c.pass-kept.result c.pass-kept.ensures.built
-    c.pass-kept.ensures.rest in
-    let n =
-    pair-next c.pairs.list.items c.pairs.at p.pair c.pass-kept.new.list.items c.pass-kept.ensures.rest c.in-Some.is noted.0
-    c.take_at-tree.result c.take_at-tree.ensures.tree in
+    let passed = c.pass-kept.ensures in
+    let noted = met-done g.met.T.Build.keeps_refl c.pairs.invariant p _ _ passed.built passed.rest in
+    let n = pair-next _ _ p.pair _ passed.rest c.in-Some.is noted.0 _ c.take_at-tree.ensures.tree in
     let may = meets n refl in
     let fr = right-fewer n in
     let fl = left-fewer n in
@@ -120,27 +113,14 @@ append_list-append_at-requires g t c κs inside =
 pub append_list-pairs-preserved : goal.append_list-pairs-preserved
 append_list-pairs-preserved g t c =
     let p = rw (c.deref.ensures.value, take_rest c.pairs.list.items c.pairs.at) at c.in_ok-passed.ensures.next in
-    let noted =
-    met-done g.met.T.Build.keeps_refl c.pairs.invariant p c.pass-kept.new.list.items c.pass-kept.result c.pass-kept.ensures.built
-    c.pass-kept.ensures.rest in
-    let within =
-    pair-within c.pairs.list.items c.pairs.at p.pair c.pass-kept.new.list.items c.pass-kept.ensures.rest c.in-Some.is in
-    let n =
-    pair-next c.pairs.list.items c.pairs.at p.pair c.pass-kept.new.list.items c.pass-kept.ensures.rest c.in-Some.is noted.0
-    c.take_at-tree.result c.take_at-tree.ensures.tree in
+    let passed = c.pass-kept.ensures in
+    let noted = met-done g.met.T.Build.keeps_refl c.pairs.invariant p _ _ passed.built passed.rest in
+    let within = pair-within _ _ p.pair _ passed.rest c.in-Some.is in
+    let n = pair-next _ _ p.pair _ passed.rest c.in-Some.is noted.0 _ c.take_at-tree.ensures.tree in
     let s = set-again c.take_at-tree.ensures.left.1 c.put_back-stays.ensures.1 in
     let back = c.put_back-stays.ensures in
     let made =
     rw (made-back g.T.RadixNode.tree c.put_back-stays.result back.0 c.in_ok-made.made back.2) at c.in_ok-made.ensures in
-    let long = c.pass-kept-in-pairs.ensures.long in
-    record {
-      order = c.pass-kept-in-pairs.ensures.order;
-      within = omega (arith, long, s.long, within);
-      places =
-          pair-places c.in_ok-passed.field-0.right.comers.items noted.1 c.put_back-stays.result c.pass-kept.ensures.order _ s
-          c.pass-kept-in-pairs.new.list.items c.pass-kept-in-pairs.result c.pass-kept-in-pairs.ensures.built;
-      going =
-          pair-done c.in_ok-passed.field-0.right.comers.items n noted.1 c.put_back-stays.result made c.pass-kept.ensures.order _ s
-          c.pass-kept-in-pairs.new.list.items c.pass-kept-in-pairs.result c.pass-kept-in-pairs.ensures.built
-          c.pass-kept-in-pairs.ensures.rest;
-    }
+    let last = c.pass-kept-in-pairs.ensures in
+    let done = pair-done _ n noted.1 c.put_back-stays.result made passed.order _ s _ _ last.built last.rest in
+    record { order = last.order; within = omega (arith, last.long, s.long, within); places = done.1; going = done.0 }

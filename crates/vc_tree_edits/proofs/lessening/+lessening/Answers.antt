@@ -1,6 +1,7 @@
 -- What is left of two trees, by where their prefixes end, and of the children one after the other.
 use Rattle.std.proofs.Common.{◌≡◌, [], ◌∷◌, refl, sym, ap, subst, ◌∙◌, arith, rules, take}
-use Rattle.std.proofs.Common.{length, length-drop, is_ok, List}
+use Rattle.std.proofs.Common.{length-drop, is_ok, List}
+use Rattle.std.proofs.lemmas.List.{length-take-le}
 use Rattle.std.specs.List.{cons_option}
 use Rattle.std.specs.Option.{option_copied}
 use Rattle.vc_tree_model.specs.Canonical.{AreChildren}
@@ -13,7 +14,7 @@ use Rattle.vc_tree_facing.proofs.Next.{doing-start, meets, left-fewer, right-few
 use Rattle.vc_tree_facing.proofs.Leaving.{if-ok, node-lessened, inside-lessened, value-may, below-may}
 use Rattle.vc_tree_facing.proofs.Leaving.{ended-node, inner-node, opened-node}
 use Rattle.vc_tree_facing.proofs.Leaving.{below-fewer}
-use Rattle.vc_tree_edits.proofs.Placed.{set-at, alone-made, only-popped, first-long, same-many}
+use Rattle.vc_tree_edits.proofs.Placed.{set-at, alone-made, only-popped, same-many}
 use Rattle.vc_tree_edits.proofs.Sifted.{runs-done, pair-end, pair-within, pair-next, pair-done}
 use Rattle.vc_tree_edits.proofs.lessening.+lessening.Goals.{lessen_in-else-is_bare-via-then-is_bare+else-kept-eq1}
 use Rattle.vc_tree_edits.proofs.lessening.+lessening.Goals.{lessen_in-else-is_bare-via-else-is_bare}
@@ -21,15 +22,13 @@ use Rattle.vc_tree_edits.proofs.lessening.+lessening.Goals as goal
 
 pub lessen_at-overflow_add-place : goal.lessen_at-overflow_add-place
 lessen_at-overflow_add-place g t c =
-    let v = ap length c.prefix-whole.ensures.value in
     let k = length-drop c.args.i (g.T.RadixNode.tree c.args.tree.now).prefix in
-    omega (arith, v, k, c.split-front.ensures.agree.within_prefix, c.prefix-whole.type_inv.0, c.requires.left)
+    grind (arith, k, c.prefix-whole.ensures.value, c.split-front.ensures.agree.within_prefix)
 
 pub lessen_at-overflow_add-other_place : goal.lessen_at-overflow_add-other_place
 lessen_at-overflow_add-other_place g t c =
-    let v = ap length c.prefix-other_whole.ensures.value in
     let k = length-drop c.args.j (g.B.RadixNode.tree c.args.that.now).prefix in
-    omega (arith, v, k, c.split-front.ensures.agree.within_key, c.prefix-other_whole.type_inv.0, c.requires.right)
+    grind (arith, k, c.prefix-other_whole.ensures.value, c.split-front.ensures.agree.within_key)
 
 pub lessen_at-returns-then-other_place-other_whole : goal.lessen_at-returns-then-other_place-other_whole
 lessen_at-returns-then-other_place-other_whole g t c =
@@ -149,7 +148,7 @@ lessen_in-lessen_list-requires g t c κs inside =
 
 pub lessen_in-returns-then-kept-eq1-clause-below : goal.lessen_in-returns-then-kept-eq1-clause-below
 lessen_in-returns-then-kept-eq1-clause-below g t c =
-    let long = first-long c.lessen_list.new.list.items c.in_ok-kept.kept c.in_ok-kept.ensures.within in
+    let long = length-take-le c.in_ok-kept.kept c.lessen_list.new.list.items c.in_ok-kept.ensures.within in
     let items : cons_option c.pop.result (g.T.Children.ChildList.items (c.make_mut.follows.lender c.pop.new.self))
     ≡ take c.in_ok-kept.kept c.lessen_list.new.list.items =
     ap (cons_option c.pop.result) (c.make_mut.follows.holds _ (ap is_ok c.in_ok-list.was))
@@ -160,14 +159,11 @@ lessen_in-returns-then-kept-eq1-clause-below g t c =
 
 pub lessen_in-returns-clause-below : goal.lessen_in-returns-clause-below
 lessen_in-returns-clause-below g t c =
+    let held = c.make_mut.follows.holds _ (ap is_ok c.in_ok-list.was) ∙ c.truncate.ensures.items in
     let items : g.T.Children.ChildList.items c.else-is_bare.children ≡ take c.in_ok-kept.kept c.lessen_list.new.list.items =
     elim c.else-is_bare.branch [
-      | lessen_in-else-is_bare-via-then-is_bare+else-kept-eq1 w ↦
-          ap g.T.Children.ChildList.items w.children-is ∙ c.make_mut.follows.holds _ (ap is_ok c.in_ok-list.was)
-          ∙ c.truncate.ensures.items
-      | lessen_in-else-is_bare-via-else-is_bare w ↦
-          ap g.T.Children.ChildList.items w.children-is ∙ c.make_mut.follows.holds _ (ap is_ok c.in_ok-list.was)
-          ∙ c.truncate.ensures.items
+      | lessen_in-else-is_bare-via-then-is_bare+else-kept-eq1 w ↦ ap g.T.Children.ChildList.items w.children-is ∙ held
+      | lessen_in-else-is_bare-via-else-is_bare w ↦ ap g.T.Children.ChildList.items w.children-is ∙ held
     ] in
     let alike = g.met.T.Build.kept_alike _ _ c.in_ok-list.ensures.value in
     rw items (λ x q. g.met.O.Lessen.says_kept c.args.op.now _ _ _ _
@@ -191,53 +187,37 @@ lessen_list-next_pair-passed-requires-clause-left g t c = rw c.deref.ensures.val
 pub lessen_list-next_pair-passed-requires-clause-right : goal.lessen_list-next_pair-passed-requires-clause-right
 lessen_list-next_pair-passed-requires-clause-right g t c = c.pairs.invariant.going.right
 
-pub lessen_list-pass-kept-requires-clause-order : goal.lessen_list-pass-kept-requires-clause-order
-lessen_list-pass-kept-requires-clause-order g t c = c.pairs.invariant.order
-
-pub lessen_list-pass-kept-requires-clause-within : goal.lessen_list-pass-kept-requires-clause-within
-lessen_list-pass-kept-requires-clause-within g t c =
+pub lessen_list-pass-kept-requires : goal.lessen_list-pass-kept-requires
+lessen_list-pass-kept-requires g t c =
     let inv = c.pairs.invariant in
     let p = rw c.deref.ensures.value at c.next_pair-passed.ensures in
-    omega (arith, p.within, length-drop c.pairs.at c.pairs.list.items, inv.within)
+    record { order = inv.order; within = omega (arith, p.within, length-drop c.pairs.at c.pairs.list.items, inv.within) }
 
-pub lessen_list-returns-in_default-clause-within : goal.lessen_list-returns-in_default-clause-within
-lessen_list-returns-in_default-clause-within g t c =
+pub lessen_list-returns-in_default : goal.lessen_list-returns-in_default
+lessen_list-returns-in_default g t c =
     let inv = c.pairs.invariant in
     let p = rw c.deref.ensures.value at c.next_pair-passed.ensures in
-    omega (arith, p.within, length-drop c.pairs.at c.pairs.list.items, inv.within, c.pass-kept.ensures.long, c.pass-kept.ensures.order)
-
-pub lessen_list-returns-in_default-clause-children : goal.lessen_list-returns-in_default-clause-children
-lessen_list-returns-in_default-clause-children g t c =
-    let inv = c.pairs.invariant in
-    let p = rw c.deref.ensures.value at c.next_pair-passed.ensures in
+    let passed = c.pass-kept.ensures in
     let nothing = g.met.O.Lessen.says_nothing c.args.op.now in
-    (pair-end c.pairs.list.items c.pairs.at p c.pass-kept.new.list.items c.pass-kept.ensures.rest
-    (ap option_copied c.in_default.is) (nothing _)
-    (runs-done g.T.Build.keeps g.met.T.Build.keeps_refl c.stays_alone-stay.result c.stays_alone-stay.ensures nothing
-    c.pairs.list.items c.pairs.at c.pairs.kept inv.going p c.pass-kept.new.list.items c.pass-kept.result
-    c.pass-kept.ensures.built c.pass-kept.ensures.rest)).0
-
-pub lessen_list-returns-in_default-clause-below : goal.lessen_list-returns-in_default-clause-below
-lessen_list-returns-in_default-clause-below g t c =
-    let inv = c.pairs.invariant in
-    let p = rw c.deref.ensures.value at c.next_pair-passed.ensures in
-    let nothing = g.met.O.Lessen.says_nothing c.args.op.now in
-    (pair-end c.pairs.list.items c.pairs.at p c.pass-kept.new.list.items c.pass-kept.ensures.rest
-    (ap option_copied c.in_default.is) (nothing _)
-    (runs-done g.T.Build.keeps g.met.T.Build.keeps_refl c.stays_alone-stay.result c.stays_alone-stay.ensures nothing
-    c.pairs.list.items c.pairs.at c.pairs.kept inv.going p c.pass-kept.new.list.items c.pass-kept.result
-    c.pass-kept.ensures.built c.pass-kept.ensures.rest)).1
+    let end =
+    pair-end _ _ p _ passed.rest (ap option_copied c.in_default.is) (nothing _)
+    (runs-done g.T.Build.keeps g.met.T.Build.keeps_refl _ c.stays_alone-stay.ensures nothing _ _ _ inv.going p _ _ passed.built
+    passed.rest) in
+    record {
+      within = omega (arith, p.within, length-drop c.pairs.at c.pairs.list.items, inv.within, passed.long, passed.order);
+      children = end.0;
+      below = end.1;
+    }
 
 pub lessen_list-lessen_at-requires : goal.lessen_list-lessen_at-requires
 lessen_list-lessen_at-requires g t c κs inside =
     let inv = c.pairs.invariant in
     let p = rw c.deref.ensures.value at c.next_pair-passed.ensures in
+    let passed = c.pass-kept.ensures in
     let n =
-    pair-next c.pairs.list.items c.pairs.at p c.pass-kept.new.list.items c.pass-kept.ensures.rest (ap option_copied c.in-Some.is)
-    (runs-done g.T.Build.keeps g.met.T.Build.keeps_refl c.stays_alone-stay.result c.stays_alone-stay.ensures
-    (g.met.O.Lessen.says_nothing c.args.op.now) c.pairs.list.items c.pairs.at c.pairs.kept inv.going p
-    c.pass-kept.new.list.items c.pass-kept.result c.pass-kept.ensures.built c.pass-kept.ensures.rest)
-    c.index_mut.result.now c.index_mut.ensures.value in
+    pair-next _ _ p _ passed.rest (ap option_copied c.in-Some.is)
+    (runs-done g.T.Build.keeps g.met.T.Build.keeps_refl _ c.stays_alone-stay.ensures (g.met.O.Lessen.says_nothing c.args.op.now)
+    _ _ _ inv.going p _ _ passed.built passed.rest) _ c.index_mut.ensures.value in
     let may = meets n refl in
     let smaller = right-fewer n in
     let fewer = left-fewer n in
@@ -248,22 +228,19 @@ lessen_list-pairs-preserved g t c =
     let inv = c.pairs.invariant in
     let p = rw c.deref.ensures.value at c.next_pair-passed.ensures in
     let found = ap option_copied c.in-Some.is in
-    let within = pair-within c.pairs.list.items c.pairs.at p c.pass-kept.new.list.items c.pass-kept.ensures.rest found in
+    let passed = c.pass-kept.ensures in
+    let within = pair-within _ _ p _ passed.rest found in
     let n =
-    pair-next c.pairs.list.items c.pairs.at p c.pass-kept.new.list.items c.pass-kept.ensures.rest found
-    (runs-done g.T.Build.keeps g.met.T.Build.keeps_refl c.stays_alone-stay.result c.stays_alone-stay.ensures
-    (g.met.O.Lessen.says_nothing c.args.op.now) c.pairs.list.items c.pairs.at c.pairs.kept inv.going p
-    c.pass-kept.new.list.items c.pass-kept.result c.pass-kept.ensures.built c.pass-kept.ensures.rest)
-    c.index_mut.result.now c.index_mut.ensures.value in
+    pair-next _ _ p _ passed.rest found
+    (runs-done g.T.Build.keeps g.met.T.Build.keeps_refl _ c.stays_alone-stay.ensures (g.met.O.Lessen.says_nothing c.args.op.now)
+    _ _ _ inv.going p _ _ passed.built passed.rest) _ c.index_mut.ensures.value in
     let s = set-at c.pass-kept.new.list.items _ _ c.lessen_at.new.tree within refl in
-    let long = c.pass-kept-in-pairs.ensures.long in
+    let last = c.pass-kept-in-pairs.ensures in
     record {
-      order = c.pass-kept-in-pairs.ensures.order;
-      within = omega (arith, long, s.long, within);
-      long = long ∙ s.long ∙ c.pass-kept.ensures.long ∙ inv.long;
-      going =
-          pair-done [] n tt c.in_ok-stays.stays c.in_ok-stays.ensures.made c.pass-kept.ensures.order _ s c.pass-kept-in-pairs.new.list.items
-          c.pass-kept-in-pairs.result c.pass-kept-in-pairs.ensures.built c.pass-kept-in-pairs.ensures.rest;
+      order = last.order;
+      within = omega (arith, last.long, s.long, within);
+      long = last.long ∙ s.long ∙ passed.long ∙ inv.long;
+      going = (pair-done [] n tt _ c.in_ok-stays.ensures.made passed.order _ s _ _ last.built last.rest).0;
     }
 
 -- ---- the calls for the parts of a node

@@ -1,5 +1,5 @@
 -- The run moved down, or stays where it is.
-use Rattle.std.proofs.Common.{◌≡◌, ◌+◌, ◌++◌, ap, ◌∙◌, take, drop, length, arith}
+use Rattle.std.proofs.Common.{◌≡◌, ap, ◌∙◌, refl, length, arith}
 use Rattle.std.proofs.Math.Seq.{take-add}
 use Rattle.vc_tree_edits.proofs.Placed.{whole-back}
 use Rattle.vc_tree_edits.proofs.lessening.pass.Goals.{then-kept-at, else-kept-at}
@@ -13,10 +13,8 @@ returns-clause-built g c = rw c.if-not-stay.false (elim c.if-kept-at.branch [
       let all : c.args.list.now.len ≡ length c.args.list.now.items = omega (arith, c.args.list.now.ok.0) in
       let back =
       whole-back c.args.list.now.len c.args.list.now.items w.move_down.new.list all (moved.same_length ∙ ap length value) in
-      rw w.list-is (ap (take (c.args.kept + c.args.n)) back ∙ moved.front
-      ∙ ap (λ l. take c.args.kept l ++ take c.args.n (drop c.args.at l)) value)
+      rw (w.list-is, back, moved.front, value) refl
   | else-kept-at w ↦
       let e : c.args.kept ≡ c.args.at = omega (arith, w.if-kept-at.false, c.requires.order) in
-      rw w.list-is (take-add c.args.kept c.args.n c.args.list.now.items
-      ∙ ap (λ n. take c.args.kept c.args.list.now.items ++ take c.args.n (drop n c.args.list.now.items)) e)
+      rw (w.list-is, e) (take-add c.args.at c.args.n c.args.list.now.items)
 ])

@@ -1,10 +1,7 @@
 -- A node with a value, or with at least two children, stays as it is.
-use Rattle.std.proofs.Common.{◌≡◌, ◌≤◌, sym, ap, subst, ◌∙◌, Some, is_none, true, length, true≢false, rules}
-use Rattle.std.specs.List.{cons_option}
-use Rattle.vc_tree_model.specs.Canonical.{AreChildren}
-use Rattle.vc_tree_model.specs.Child.{solid_child}
+use Rattle.std.proofs.Common.{◌≡◌, ◌≤◌, sym, ap, ◌∙◌, Some, is_none, true, length, true≢false, rules}
 use Rattle.vc_tree_facing.proofs.Opening.{whole-of}
-use Rattle.vc_tree_nodes.specs.Children.{listed, seen}
+use Rattle.vc_tree_nodes.specs.Children.{listed}
 use Rattle.vc_tree_edits.proofs.Placed.{two-stored}
 use Rattle.vc_tree_edits.proofs.lessening.remake.Goals.{else-is_none-via-then-is_none+else-many-eq0}
 use Rattle.vc_tree_edits.proofs.lessening.remake.Goals.{else-is_none-via-else-is_none}
@@ -17,10 +14,9 @@ assemble-requires g c =
       | else-is_none-via-then-is_none+else-many-eq0 w ↦
           two-stored _ _ _ _ c.requires.kids c.in_default.is e w.if-many-eq0.false
       | else-is_none-via-else-is_none w ↦ absurd (true≢false (sym e ∙ search rules))
-    ] in (
-      (whole-of g.T.RadixNode.tree (g.T.Prefix.Fragment.items c.args.prefix) c.args.value list two).1,
-      subst (λ o. AreChildren g.K.Ord.cmp (seen g.T.RadixNode.tree (cons_option o list))) c.in_default.is c.requires.canonical,
-    )
+    ] in
+    let whole = whole-of g.T.RadixNode.tree (g.T.Prefix.Fragment.items c.args.prefix) c.args.value list two in
+    (whole.1, rw c.in_default.is at c.requires.canonical)
 
 pub returns : goal.returns
 returns g c =
@@ -31,6 +27,4 @@ returns g c =
           two-stored _ _ _ _ c.requires.kids c.in_default.is e w.if-many-eq0.false
       | else-is_none-via-else-is_none w ↦ absurd (true≢false (sym e ∙ search rules))
     ] in
-    ap Some c.assemble.ensures
-    ∙ sym (whole-of g.T.RadixNode.tree p c.args.value list two).0
-    ∙ ap (λ o. solid_child p c.args.value (seen g.T.RadixNode.tree (cons_option o list))) (sym c.in_default.is)
+    rw c.in_default.is (ap Some c.assemble.ensures ∙ sym (whole-of g.T.RadixNode.tree p c.args.value list two).0)

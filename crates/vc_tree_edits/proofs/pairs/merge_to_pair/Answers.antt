@@ -1,4 +1,5 @@
 -- Where the merge stops.
+use Rattle.std.proofs.Common.{rules}
 use Rattle.vc_tree_facing.specs.Sides.{by_component}
 use Rattle.vc_tree_edits.proofs.Passing.{children-ascend, only-stopped, stopped-next, stopped-fewer}
 use Rattle.vc_tree_edits.proofs.Passing.{stopped-behind, on-some}
@@ -16,19 +17,16 @@ overflow_sub-lefts g c =
     (only-stopped (λ s. s.left.now) (λ s. s.right.now)
     (by_component g.A.RadixNode.tree g.B.RadixNode.tree 0 c.args.from g.K.Ord.cmp) _ _ _ _ c.merge_as-never_refused.ensures.before)
 
-pub returns-clause-next : goal.returns-clause-next
-returns-clause-next g c =
-    rw c.stop_at.ensures.passed (stopped-next _ _ _ _ _ _
-    (only-stopped (λ s. s.left.now) (λ s. s.right.now)
-    (by_component g.A.RadixNode.tree g.B.RadixNode.tree 0 c.args.from g.K.Ord.cmp) _ _ _ _ c.merge_as-never_refused.ensures.before)
-    _ _ c.stop_at.ensures.rights c.stop_at.ensures.end)
-
-pub returns-clause-before : goal.returns-clause-before
-returns-clause-before g c =
-    on-some c.stop_at.result.other c.stop_at.ensures.rights (λ y e.
-    let b =
-    stopped-behind _ _ _ _ _ _
-    (only-stopped (λ s. s.left.now) (λ s. s.right.now)
-    (by_component g.A.RadixNode.tree g.B.RadixNode.tree 0 c.args.from g.K.Ord.cmp) _ _ _ _ c.merge_as-never_refused.ensures.before)
-    y _ e in
-    rw (c.stop_at.ensures.passed, b.2) b.1)
+pub returns : goal.returns
+returns g c =
+    let stop = c.stop_at.ensures in
+    let stopped =
+    only-stopped (λ s. s.left.now) (λ s. s.right.now)
+    (by_component g.A.RadixNode.tree g.B.RadixNode.tree 0 c.args.from g.K.Ord.cmp) _ _ _ _
+    c.merge_as-never_refused.ensures.before in
+    record {
+      next = rw stop.passed (stopped-next _ _ _ _ _ _ stopped _ _ stop.rights stop.end);
+      before = on-some c.stop_at.result.other stop.rights (λ y e.
+          let b = stopped-behind _ _ _ _ _ _ stopped y _ e in rw (stop.passed, b.2) b.1);
+      counted = search rules;
+    }

@@ -1,20 +1,19 @@
 -- A tree that goes on behind the place, or the children of one that does not.
-use Rattle.std.proofs.Common.{◌∙◌, sym, ap, arith, drop}
+use Rattle.std.proofs.Common.{◌∙◌, sym, ap, arith, drop, refl}
 use Rattle.std.proofs.Math.ListN.{drop_of_length-le}
 use Rattle.vc_tree_facing.proofs.Ending.{below-children}
 use Rattle.vc_tree_facing.proofs.Opening.{opened-all, opened-rest}
 use Rattle.vc_tree_edits.proofs.pairs.trees_at.Goals as goal
 
-pub returns-then-place-prefix-clause-opened : goal.returns-then-place-prefix-clause-opened
-returns-then-place-prefix-clause-opened g c =
-    opened-rest g.B.RadixNode.tree c.args.tree.now 0 c.args.place (omega arith)
-    (rw c.prefix.ensures.value at c.if-place-prefix.true)
-
-pub returns-then-place-prefix-clause-children : goal.returns-then-place-prefix-clause-children
-returns-then-place-prefix-clause-children g c =
-    below-children g.K.Ord.cmp c.args.place c.prefix.ensures.canonical
-    (opened-rest g.B.RadixNode.tree c.args.tree.now 0 c.args.place (omega arith)
-    (rw c.prefix.ensures.value at c.if-place-prefix.true))
+pub returns-then-place-prefix : goal.returns-then-place-prefix
+returns-then-place-prefix g c =
+    let within = rw c.prefix.ensures.value at c.if-place-prefix.true in
+    let opened = opened-rest g.B.RadixNode.tree c.args.tree.now 0 c.args.place (omega arith) within in
+    record {
+      opened = opened;
+      children = below-children g.K.Ord.cmp c.args.place c.prefix.ensures.canonical opened;
+      stands = (refl, refl, within);
+    }
 
 pub returns-else-place-prefix-clause-opened : goal.returns-else-place-prefix-clause-opened
 returns-else-place-prefix-clause-opened g c =

@@ -7,23 +7,14 @@ use Rattle.vc_tree_nodes.proofs.ascending.least_common.Goals.{else-step-least+el
 
 pub loop-step-preserved : goal.loop-step-preserved
 loop-step-preserved g c =
+    let so_far = c.loop-step.invariant.0 in
+    let within = c.loop-step-test.true in
+    let same = c.step-item.is in
     elim c.if-step-least.branch [
-      | then-step-least w ↦ rw (w.least-is, w.count-is) (
-        least-new (λ s. s.common) c.loop-step.least
-            c.loop-step.step-index c.step-item.result c.args.run.now c.loop-step.invariant.0 c.loop-step-test.true c.step-item.is
-            w.if-step-least.true,
-        omega arith,
-      )
-      | else-step-least+then-step-least-2 w ↦ rw (w.least-is, w.count-is) (
-        least-stays (λ s. s.common) c.loop-step.least
-            c.loop-step.step-index c.step-item.result c.args.run.now c.loop-step.invariant.0 c.loop-step-test.true c.step-item.is
-            w.if-step-least.false,
-        omega (arith, c.loop-step.invariant.1),
-      )
-      | else-step-least+else-step-least-2 w ↦ rw (w.least-is, w.count-is) (
-        least-stays (λ s. s.common) c.loop-step.least
-            c.loop-step.step-index c.step-item.result c.args.run.now c.loop-step.invariant.0 c.loop-step-test.true c.step-item.is
-            w.if-step-least.false,
-        omega (arith, c.loop-step.invariant.1),
-      )
+      | then-step-least w ↦ rw (w.least-is, w.count-is)
+          (least-new (λ s. s.common) _ _ _ _ so_far within same w.if-step-least.true, omega arith)
+      | else-step-least+then-step-least-2 w ↦ rw (w.least-is, w.count-is)
+          (least-stays (λ s. s.common) _ _ _ _ so_far within same w.if-step-least.false, omega (arith, c.loop-step.invariant.1))
+      | else-step-least+else-step-least-2 w ↦ rw (w.least-is, w.count-is)
+          (least-stays (λ s. s.common) _ _ _ _ so_far within same w.if-step-least.false, omega (arith, c.loop-step.invariant.1))
     ]

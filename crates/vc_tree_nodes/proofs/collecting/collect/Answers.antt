@@ -1,29 +1,32 @@
 -- Each pair that comes is one more, and at the end the run is whole. A canonical tree is the one tree of its map.
-use Rattle.std.proofs.Common.{map, sym, subst, ◌∙◌}
+use Rattle.std.proofs.Common.{arith, ◌∙◌}
 use Rattle.std.proofs.iter.SoFar.{exit_by}
-use Rattle.vc_tree_model.specs.Map.{lookup, IsEqualMap}
 use Rattle.vc_tree_model.specs.Matches.{AreCopies}
-use Rattle.vc_tree_model.specs.Pairs.{last_bound}
+use Rattle.vc_tree_model.proofs.ValueLemmas.{maps-by}
 use Rattle.vc_tree_model.proofs.Uniqueness.{canonical-one}
 use Rattle.vc_tree_model.proofs.Smallness.{canonical-smallest}
-use Rattle.vc_tree_nodes.proofs.Runs.{none-grows, none-kept, yielded-more, gathered-whole}
+use Rattle.std.proofs.lemmas.List.{map-append}
+use Rattle.vc_tree_nodes.proofs.Runs.{bound-parted}
 use Rattle.vc_tree_nodes.proofs.collecting.collect.Goals as goal
 
 pub loop-key-init : goal.loop-key-init
 loop-key-init g c = (
-  none-grows g.K.Ord.cmp (λ s. g.S.Spelled.components s.key) (λ s. s.common) c.new-gathering.result.ascends
-      c.new-gathering.result.run.items c.new-gathering.result.values.items c.new-gathering.ensures.none
-      c.new-gathering.ensures.no_values,
-  λ k. none-kept g.K.Ord.cmp (λ s. g.S.Spelled.components s.key) g.T.Build.keeps c.new-gathering.result.ascends
-      c.new-gathering.result.run.items c.new-gathering.result.values.items (g.T.RadixNode.tree c.blank-tree.result) k
-      c.new-gathering.ensures.none c.blank-tree.ensures,
+  grind (arith, c.new-gathering.ensures.none, c.new-gathering.ensures.no_values),
+  λ k. grind (arith, c.new-gathering.ensures.none, c.blank-tree.ensures),
 )
 
 pub loop-key-preserved : goal.loop-key-preserved
 loop-key-preserved g c = (
   c.in_ok-add.ensures.grows,
-  yielded-more g.K.Ord.cmp g.T.Build.keeps g.met.T.Build.keeps_refl g.met.T.Build.keeps_trans g.S.Spelled.components
-      c.loop-key.yielded (c.in-Some.key, c.in-Some.value) _ _ c.loop-key.invariant.1 c.in_ok-add.ensures.binds,
+  λ k. grind (
+    arith,
+    c.loop-key.invariant.1 k,
+    c.in_ok-add.ensures.binds k,
+    map-append,
+    bound-parted,
+    g.met.T.Build.keeps_refl,
+    g.met.T.Build.keeps_trans,
+  ),
 )
 
 pub returns-clause-pairs : goal.returns-clause-pairs
@@ -34,9 +37,7 @@ returns-clause-pairs g c =
       whole.0,
       whole.1 ∙ c.into_iter-key-iterator.ensures.into_iter_gives,
       whole.2,
-      subst (λ xs. IsEqualMap g.T.Build.keeps (last_bound g.K.Ord.cmp (map (λ b. (g.S.Spelled.components b.0, b.1)) xs))
-          (lookup g.K.Ord.cmp (g.T.RadixNode.tree c.finish.new.tree)))
-          (sym whole.3.0) (gathered-whole g.T.Build.keeps _ _ _ c.loop-key.invariant.1 c.in_ok-finish.ensures),
+      rw (← whole.3.0) at (maps-by g.T.Build.keeps _ _ _ c.loop-key.invariant.1 c.in_ok-finish.ensures),
     )
 
 pub returns-clause-one : goal.returns-clause-one

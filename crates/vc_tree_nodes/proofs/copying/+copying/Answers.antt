@@ -1,27 +1,22 @@
 -- A copied node is canonical since its parts are alike to the old ones; a list of copies grows by one.
-use Rattle.std.proofs.Common.{◌≡◌, ◌≤◌, drop, sym, rules}
+use Rattle.std.proofs.Common.{◌≤◌, rules}
 use Rattle.vc_tree_model.specs.Value.{IsKept}
-use Rattle.vc_tree_model.specs.Tree.{shortened, node, nodes, forest_nodes}
+use Rattle.vc_tree_model.specs.Tree.{nodes, forest_nodes}
 use Rattle.vc_tree_model.specs.Same.{IsAlikeIn}
 use Rattle.vc_tree_nodes.specs.Children.{listed, seen}
-use Rattle.vc_tree_model.proofs.AlikeLemmas.{alike-more, tree-alike_canonical}
-use Rattle.vc_tree_model.proofs.Shortening.{shortened-canonical}
-use Rattle.vc_tree_nodes.proofs.Events.{low-from}
+use Rattle.vc_tree_model.proofs.AlikeLemmas.{alike-more}
+use Rattle.vc_tree_nodes.proofs.Events.{copied-canonical}
 use Rattle.vc_tree_nodes.proofs.Finding.{child-nodes}
 use Rattle.vc_tree_nodes.proofs.copying.+copying.Goals as goal
 
 pub copy_onto-assemble-requires : goal.copy_onto-assemble-requires
 copy_onto-assemble-requires g t c =
     let tree = g.S.RadixNode.tree c.args.tree.now in
-    let made = g.T.Prefix.Fragment.items c.in_ok-prefix.prefix in
-    let copies = seen g.T.RadixNode.tree (listed g.T.Children.ChildList.items c.in_ok-children.children) in
-    let prefix : drop c.args.from tree.prefix ≡ made =
-    sym (low-from _ c.prefix.result.now tree.prefix c.args.from c.in_ok-prefix.ensures.items c.prefix.ensures.value) in
     let value : IsKept g.V.Clone.is_clone tree.value c.in_ok-value.value = search rules in
-    let children : IsAlikeIn g.V.Clone.is_clone tree.children copies = search rules in
-    tree-alike_canonical g.V.Clone.is_clone g.K.Ord.cmp (shortened c.args.from tree)
-    (node made c.in_ok-value.value copies) (prefix, value, children)
-    (shortened-canonical g.K.Ord.cmp c.args.from tree c.prefix.ensures.canonical)
+    let children : IsAlikeIn g.V.Clone.is_clone tree.children
+    (seen g.T.RadixNode.tree (listed g.T.Children.ChildList.items c.in_ok-children.children)) = search rules in
+    copied-canonical g.V.Clone.is_clone g.K.Ord.cmp tree c.args.from _ _ c.in_ok-prefix.ensures.items
+    c.prefix.ensures.value value children c.prefix.ensures.canonical
 
 pub copy_list-copy_onto-requires : goal.copy_list-copy_onto-requires
 copy_list-copy_onto-requires g t c κs within =

@@ -1,8 +1,9 @@
 -- The empty tree becomes a leaf; any other grows.
 use Rattle.std.proofs.Common.{sym, ◌∙◌}
+use Rattle.std.proofs.lemmas.Result.{on_ok_weaker}
 use Rattle.vc_tree_model.proofs.AlikeLemmas.{tree-alike_canonical, tree-alike_lookup}
 use Rattle.vc_tree_model.proofs.KeyLemmas.{same-itself}
-use Rattle.vc_tree_nodes.proofs.Events.{on-ok, on-err, on-both, leaf-made}
+use Rattle.vc_tree_nodes.proofs.Events.{on-err, on-both, leaf-made}
 use Rattle.vc_tree_nodes.proofs.Growing.{not-bare_solid, solid-canonical}
 use Rattle.vc_tree_nodes.proofs.insertion.insert.Goals as goal
 
@@ -26,7 +27,7 @@ insert_from-requires-clause-solid g c =
 
 pub returns-clause-binds : goal.returns-clause-binds
 returns-clause-binds g c =
-    on-ok c.insert_from.result
+    on_ok_weaker c.insert_from.result
     (λ updated. updated.at c.args.key.now (same-itself g.K.Ord.cmp g.met.K.Ord.total c.args.key.now))
     c.insert_from.ensures.ok
 

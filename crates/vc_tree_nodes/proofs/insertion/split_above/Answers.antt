@@ -1,17 +1,15 @@
 -- A new node with the value, above the rest of the old one.
-use Rattle.std.proofs.Common.{refl, ap, ◌∙◌, arith, is_ok, length, ◌<◌}
+use Rattle.std.proofs.Common.{refl, ap, ◌∙◌, arith, is_ok}
 use Rattle.vc_tree_nodes.proofs.Events.{whole-solid, top-made, inserted-canonical}
-use Rattle.vc_tree_nodes.proofs.Growing.{solid-whole}
+use Rattle.vc_tree_nodes.proofs.Growing.{solid-canonical}
 use Rattle.vc_tree_nodes.proofs.insertion.split_above.Goals as goal
 
 pub cut-low-requires : goal.cut-low-requires
 cut-low-requires g c =
     let t = g.T.RadixNode.tree c.args.tree.now in
-    let there : 0 < length t.prefix = omega (arith, c.requires) in (
-      solid-whole _ t.value t.children (whole-solid t.prefix t.value t.children there
-          c.prefix-whole.ensures.canonical.0),
-      c.prefix-whole.ensures.canonical.1,
-    )
+    let canonical = c.prefix-whole.ensures.canonical in
+    solid-canonical g.K.Ord.cmp _ t.value t.children
+    (whole-solid t.prefix t.value t.children (omega (arith, c.requires)) canonical.0) canonical.1
 
 pub assemble-requires : goal.assemble-requires
 assemble-requires g c =

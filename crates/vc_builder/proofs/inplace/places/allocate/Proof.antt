@@ -1,16 +1,16 @@
 -- `allocate` cuts a new block into empty places, and keeps the right to free it. Assumes `Logic`.
-use Rattle.vc_builder.proofs.WalkNames.{ !, [], ◌≡◌, refl, sym, ap, subst, true, false, ◌∷◌, ℕ, ◌*◌, ◌<◌}
+use Rattle.vc_builder.proofs.WalkNames.{group, !, [], ◌≡◌, refl, sym, ap, subst, true, false, ◌∷◌, ℕ, ◌*◌, ◌<◌}
 use Rattle.vc_builder.proofs.WalkNames.{◌^◌, arith, lit<, length, replicate, length-replicate, SProp, Lft}
-use Rattle.vc_builder.proofs.WalkNames.{Share, ftrue, flft, Incl-trans, w64, ty_array, inst_fn, Val, vint}
+use Rattle.vc_builder.proofs.WalkNames.{Share, ftrue, flft, Incl-trans, w64, ty_array, inst_fn, Val}
 use Rattle.vc_builder.proofs.WalkNames.{vstruct, vcons, vnil, Env, Item, ‵, raw, later, await, at_ret, ◌⊛◌}
 use Rattle.vc_builder.proofs.WalkNames.{◌$◌, ◌∵◌, qed, move, keep, use0, use1, use2, use3, split, join, fsplit}
 use Rattle.vc_builder.proofs.WalkNames.{fjoin, suffices, frame, done, whole, agg, lit}
-use Rattle.vc_builder.proofs.WalkNames.{stop, fld, bin, of_opd, size_word, align_word, and_then, no_more, first, exec}
+use Rattle.vc_builder.proofs.WalkNames.{stop, fld, of_opd, align_word, and_then, no_more, first, exec}
 use Rattle.vc_builder.proofs.WalkNames.{returns, enter, alloc_all, pass_all, free_all, look_at, get, get_in, get_tag}
-use Rattle.vc_builder.proofs.WalkNames.{sets, sets_last, lands_as, is, env, fact, tables, ◌⊑◌, RefOf, yes, Is}
+use Rattle.vc_builder.proofs.WalkNames.{sets, sets_last, lands_as, env, fact, tables, ◌⊑◌, RefOf, yes, Is}
 use Rattle.vc_builder.proofs.WalkNames.{layout, RattleType, owns, Ptr, block_ptr, plain, types_at, nothing, heard}
 use Rattle.vc_builder.proofs.WalkNames.{says, Stays, stay_dropped, walk_of, ends_at, Goes-dropped, None}
-use Rattle.vc_builder.proofs.WalkNames.{El, R, elτ, uncapped, as_written, word, word-Good}
+use Rattle.vc_builder.proofs.WalkNames.{El, R, elτ, as_written, word, word-Good}
 use mir.Syntax.{Body}
 use prog.Memory.{align, capped}
 use prog.Capped.{capped_fits}
@@ -37,7 +37,7 @@ use Rattle.circular_buffer.specs.Ownership.{slots}
 use Rattle.vc_builder.specs.Builder.{builder}
 use Rattle.vc_builder.proofs.PlacesLaid.{laid-empty}
 use Rattle.vc_builder.proofs.WalkNames.{List, Option, rewrite, ◌∙◌}
-use Rattle.vc_builder.proofs.PlacesMemory.{all, closed}
+use Rattle.vc_builder.proofs.PlacesMemory.{sized, all, closed}
 use Rattle.vc_builder.proofs.PlacesMemory.{Title, Row, Start, Mark, bytes, number-goes}
 use Rattle.vc_builder.proofs.WalkNames.{named, proved, shr_vals, shr_Tells, uint_vals, uint_Tells}
 use Rattle.circular_buffer.proofs.Memory.{mark, mark_made, word_made, three_val, three_of, of_room}
@@ -76,9 +76,7 @@ allocate_spec 𝓤 𝓛 𝓜 𝓡 wired X W LX LW g d dd met md =
     let Then : After 𝓤 H = any_q (after_seq 𝓤 H (Wp 𝓤 H 𝓣.C 𝓣.Λ Ev (after 3 fn.body) (at_return 𝓤 H Ev Post))
     (at_return 𝓤 H Ev Post)) in
     let y : Request.Ghost = at_takes Z 𝓛 𝓜.mem 𝓡.returns κ q at₀ a (count * s) alignment (block_ty E count) in
-    sets ! (is ! (bin ! (get ! refl) (size_word !)
-    (record { fits = subst (λ (k : ℕ). k < 2 ^ 64) (sym (uncapped count s fit)) fit }))
-    (ap (vint w64) (uncapped count s fit))) refl (tt, record { fits = fit }) $
+    sets ! (sized E ! (get ! refl) fit) refl (tt, record { fits = fit }) $
     use2 𝓛 (raw (Request.pre y)) (Takes-goes Z 𝓛 𝓜.mem 𝓡.returns κ q at₀ a (Incl-trans bounds.0 within)
     (count * s) alignment (block_ty E count) (block_size E count fit) (block_align E count) fit
     (capped_fits (align (elτ E)))) $
@@ -119,7 +117,7 @@ allocate_spec 𝓤 𝓛 𝓜 𝓡 wired X W LX LW g d dd met md =
     returns ! (look_at ! 0 refl) $ free_all ! refl $ keep ! (0 ∷ 1 ∷ 2 ∷ []) $
     suffices ! _ (ends_at 𝓛 Ends hs c z (live 0 (vcons made vnil)) (Ok (start, row, title)) (tt, (tt, tt)) (tt, (tt, tt))) $
     says ! (refl, refl, refl, refl, refl, refl) $ move ! (1 ∷ 2 ∷ []) $ join ! $ frame ! $
-    nothing ! $ nothing ! $ fjoin ! $ nothing ! $ fjoin ! $ done !)
+    nothing ! $ nothing ! $ nothing ! $ group ! 3 $ done !)
     (λ is_refused.
     let Refusal : RattleType = Struct (Declared.shape errors.the_type) in
     let none : Val = live 1 (vcons (vstruct vnil) vnil) in
@@ -136,4 +134,4 @@ allocate_spec 𝓤 𝓛 𝓜 𝓡 wired X W LX LW g d dd met md =
     returns ! (look_at ! 0 refl) $ free_all ! refl $ keep ! (0 ∷ 1 ∷ 2 ∷ []) $
     suffices ! _ (ends_at 𝓛 Ends hs c z none (Err (record {})) (tt, (tt, tt)) (tt, (tt, tt))) $ says ! tt $
     move ! (1 ∷ 2 ∷ []) $ join ! $ frame ! $
-    nothing ! $ nothing ! $ fjoin ! $ nothing ! $ fjoin ! $ done !))))))
+    nothing ! $ nothing ! $ nothing ! $ group ! 3 $ done !))))))

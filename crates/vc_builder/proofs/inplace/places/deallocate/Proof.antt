@@ -1,16 +1,16 @@
 -- `deallocate` makes the block of its empty places, and gives it back. Assumes `Logic`.
 use Rattle.vc_builder.proofs.WalkNames.{ !, [], ◌≡◌, refl, sym, ap, subst, ◌∙◌, List, ◌∷◌, ℕ, ◌*◌, ◌<◌, ◌^◌}
 use Rattle.vc_builder.proofs.WalkNames.{arith, replicate, length-replicate, SProp, never, id⊢, Lft, Share, ftrue}
-use Rattle.vc_builder.proofs.WalkNames.{froom, flft, Incl-trans, w64, ty_array, ty_unit, inst_fn, Val, vint}
+use Rattle.vc_builder.proofs.WalkNames.{froom, flft, Incl-trans, w64, ty_array, ty_unit, inst_fn, Val}
 use Rattle.vc_builder.proofs.WalkNames.{vunit, has_ty, WT, Item, ‵, raw, given, later, await, learn}
 use Rattle.vc_builder.proofs.WalkNames.{at_ret, ◌⊛◌, ◌$◌, ◌∵◌, qed, move, keep, use1, split, join, group, rewrite}
-use Rattle.vc_builder.proofs.WalkNames.{fsplit, fsplit3, fjoin, feq_i, flt_l, suffices, done, whole, sub, stop}
-use Rattle.vc_builder.proofs.WalkNames.{fld, bin, of_opd, unit_lit, size_word, align_word, and_then, no_more, first}
+use Rattle.vc_builder.proofs.WalkNames.{fsplit, fsplit3, feq_i, flt_l, suffices, done, whole, sub, stop}
+use Rattle.vc_builder.proofs.WalkNames.{fld, of_opd, unit_lit, align_word, and_then, no_more, first}
 use Rattle.vc_builder.proofs.WalkNames.{blocks, exec, returns, enter, alloc_all, pass_all, free_all, look_at, get}
 use Rattle.vc_builder.proofs.WalkNames.{get_in, sets, lands_last, is, env, fact, tables, ◌⊑◌, RefOf, yes, no}
 use Rattle.vc_builder.proofs.WalkNames.{RattleType, owns, Ptr, ptr_val, in_a_block, plain, types_at, nothing, heard}
 use Rattle.vc_builder.proofs.WalkNames.{Stays, stay_dropped, walk_of, ends_at, Goes-dropped, Option, None}
-use Rattle.vc_builder.proofs.WalkNames.{tail, El, R, elτ, uncapped, as_raw, word-Good}
+use Rattle.vc_builder.proofs.WalkNames.{tail, El, R, elτ, as_raw, word-Good}
 use lib.Dec.{T}
 use prog.Memory.{align, capped}
 use prog.Capped.{capped_fits}
@@ -23,7 +23,7 @@ use Rattle.vc_builder.specs.Builder.{builder}
 use Rattle.vc_builder.specs.Places.{laid}
 use Rattle.vc_builder.proofs.WalkNames.{◌+◌}
 use Rattle.vc_builder.proofs.PlacesLaid.{laid-empty}
-use Rattle.vc_builder.proofs.PlacesMemory.{Title, title-told, Row, Start, bytes, mark-told, base_vals, base-tells}
+use Rattle.vc_builder.proofs.PlacesMemory.{sized, Title, title-told, Row, Start, bytes, mark-told, base_vals, base-tells}
 use Rattle.vc_builder.proofs.PlacesMemory.{base-goes, number-goes}
 use Rattle.vc_builder.proofs.WalkNames.{named, proved, shr_vals, shr_Tells, uint_vals, uint_Tells}
 use Rattle.circular_buffer.proofs.Memory.{mark, to_room}
@@ -88,9 +88,7 @@ deallocate_spec 𝓤 𝓛 𝓜 𝓡 wired X W LX LW g d dd met md =
     use1 𝓛 (‵ (froom (ty_array (elτ E) count) b o)) (to_room E 𝓛 b count o) $ as_raw ! (ty_array (elτ E) count) b o $
     first ! $ blocks ! $
     sets ! (is ! (of_opd ! (get_in ! (fld ! refl (stop !)) (sub ! 0 refl (whole !)))) (ap ptr_val at)) refl (tt, tt) $
-    sets ! (is ! (bin ! (get ! refl) (size_word !)
-    (record { fits = subst (λ (k : ℕ). k < 2 ^ 64) (sym (uncapped count s fit)) fit }))
-    (ap (vint w64) (uncapped count s fit))) refl (tt, record { fits = fit }) $
+    sets ! (sized E ! (get ! refl) fit) refl (tt, record { fits = fit }) $
     group ! 4 $ use1 𝓛 (raw (Request.pre req)) (Gives-goes Z 𝓛 𝓜.mem 𝓡.returns κ q at₀ a (Incl-trans bounds.0 within) b o
     (count * s) alignment (block_ty E count) (block_size E count fit) (block_align E count) fit (capped_fits (align (elτ E)))) $
     calls_at_last ! (framed 𝓤 H 𝓜 𝓣) Request (met.deallocate dd) req (and_then ! (get ! refl)
@@ -103,6 +101,5 @@ deallocate_spec 𝓤 𝓛 𝓜 𝓡 wired X W LX LW g d dd met md =
     sets ! (of_opd ! (unit_lit !)) refl (tt, tt) $ returns ! (look_at ! 0 refl) $ free_all ! refl $
     keep ! (0 ∷ 1 ∷ []) $
     suffices ! _ (ends_at 𝓛 Ends hs c y vunit tt (tt, (tt, (tt, (tt, (tt, tt))))) (tt, (tt, (tt, (tt, (tt, tt)))))) $
-    join ! $ feq_i ! (List Val) (vunit ∷ []) (vunit ∷ []) refl $ nothing ! $ nothing ! $ fjoin ! $ nothing ! $ fjoin ! $
-    nothing ! $ fjoin ! $ nothing ! $ fjoin ! $ nothing ! $ fjoin ! $ join ! $
-    move ! (1 ∷ 0 ∷ []) $ join ! $ nothing ! $ move ! (1 ∷ 0 ∷ []) $ done !))))))))
+    join ! $ feq_i ! _ (vunit ∷ []) _ refl $ nothing ! $ nothing ! $ nothing ! $ nothing ! $ nothing ! $ nothing ! $
+    group ! 6 $ join ! $ move ! (1 ∷ 0 ∷ []) $ join ! $ nothing ! $ move ! (1 ∷ 0 ∷ []) $ done !))))))))

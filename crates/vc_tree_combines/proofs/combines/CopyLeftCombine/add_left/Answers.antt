@@ -1,10 +1,9 @@
 -- A copy of the whole tree.
 use Rattle.vc_tree_facing.proofs.Next.{made-left}
-use Rattle.vc_tree_combines.proofs.Alone.{copy-added, difference-left}
+use Rattle.vc_tree_combines.proofs.Alone.{copy-added, kept_copies}
 use Rattle.vc_tree_combines.proofs.combines.CopyLeftCombine.add_left.Goals as goal
 
 pub returns : goal.returns
 returns g c =
-    copy-added g.K.Ord.cmp g.V.Clone.is_clone (g.A.RadixNode.tree c.args.tree.now) c.args.from g.M.RadixNode.tree
-    (difference-left g.V.Clone.is_clone) (λ o. made-left) c.copy_onto.ensures.canonical c.requires.within c.copy_onto.result _ _
-    c.copy_onto.ensures.alike
+    copy-added g.V.Clone.is_clone _ _ g.M.RadixNode.tree (λ v z h. kept_copies g.V.Clone.is_clone v z h) (λ o. made-left)
+    c.copy_onto.ensures.canonical c.requires.within c.copy_onto.result _ _ c.copy_onto.ensures.alike

@@ -1,7 +1,7 @@
 -- A clone of the left value is a copy of it.
-use Rattle.std.proofs.Common.{rules}
-use Rattle.vc_tree_combines.proofs.Alone.{difference-value}
+use Rattle.std.proofs.Common.{arith}
+use Rattle.vc_tree_combines.proofs.Alone.{ok-copies}
 use Rattle.vc_tree_combines.proofs.combines.CopyLeftCombine.at_values.Goals as goal
 
 pub returns-in-None : goal.returns-in-None
-returns-in-None g c = difference-value g.V.Clone.is_clone _ _ _ (search rules) c.clone_value.ensures
+returns-in-None g c = grind (arith, ok-copies)

@@ -5,6 +5,5 @@ use Rattle.vc_tree_combines.proofs.combines.OuterCombine.add_right.Goals as goal
 
 pub returns : goal.returns
 returns g c =
-    copy-added g.K.Ord.cmp g.V.Clone.is_clone (g.B.RadixNode.tree c.args.tree.now) c.args.from g.M.RadixNode.tree
-    (λ v z h. h) (λ o. made-right) c.copy_onto.ensures.canonical c.requires.within c.copy_onto.result _ _
-    c.copy_onto.ensures.alike
+    copy-added g.V.Clone.is_clone _ _ g.M.RadixNode.tree (λ v z h. h) (λ o. made-right)
+    c.copy_onto.ensures.canonical c.requires.within c.copy_onto.result _ _ c.copy_onto.ensures.alike

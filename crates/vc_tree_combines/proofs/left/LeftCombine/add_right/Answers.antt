@@ -1,7 +1,7 @@
 -- Nothing.
 use Rattle.std.proofs.Common.{arith}
-use Rattle.vc_tree_combines.proofs.Runs.{right-none}
+use Rattle.vc_tree_combines.proofs.Runs.{none-added}
 use Rattle.vc_tree_combines.proofs.left.LeftCombine.add_right.Goals as goal
 
 pub returns : goal.returns
-returns g c = right-none g.K.Ord.cmp _ (λ v. grind arith) _ _
+returns g c = none-added g.K.Ord.cmp _ _ _ _ (λ k. grind arith)

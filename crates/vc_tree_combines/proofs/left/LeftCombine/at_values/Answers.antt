@@ -1,7 +1,7 @@
 -- The closure's answer at a key of the left.
-use Rattle.std.proofs.Common.{rules}
-use Rattle.vc_tree_combines.proofs.Alone.{left-answer}
+use Rattle.std.proofs.Common.{arith}
+use Rattle.vc_tree_combines.proofs.Alone.{may-answer_at}
 use Rattle.vc_tree_combines.proofs.left.LeftCombine.at_values.Goals as goal
 
 pub returns-in-Some : goal.returns-in-Some
-returns-in-Some g c = left-answer _ _ _ _ (search rules) c.answer.ensures
+returns-in-Some g c = grind (arith, may-answer_at)

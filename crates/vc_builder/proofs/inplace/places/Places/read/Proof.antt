@@ -1,22 +1,22 @@
 -- `read` moves a value out, and its place is empty. Assumes `Logic`.
-use Rattle.vc_builder.proofs.WalkNames.{ !, refl, subst, ◌∙◌, List, [], ◌∷◌, ℕ, ◌+◌, ◌*◌, ◌<◌, ◌^◌}
+use Rattle.vc_builder.proofs.WalkNames.{group, !, refl, subst, ◌∙◌, List, [], ◌∷◌, ℕ, ◌+◌, ◌*◌, ◌<◌, ◌^◌}
 use Rattle.vc_builder.proofs.WalkNames.{arith, length, set, get_or, full_share, SProp}
 use Rattle.vc_builder.proofs.WalkNames.{fat, froom, w64, a_type, inst_fn, Val}
 use Rattle.vc_builder.proofs.WalkNames.{‵, some, given, pick, learn, at_ret, ◌⊛◌, ◌$◌, move}
-use Rattle.vc_builder.proofs.WalkNames.{keep, use1, use2, split, join, rewrite, fsplit, fsplit3, fjoin, fjoin3, feq_i}
+use Rattle.vc_builder.proofs.WalkNames.{keep, use1, use2, split, join, rewrite, fsplit, fsplit3, fjoin3, feq_i}
 use Rattle.vc_builder.proofs.WalkNames.{suffices, frame, done, whole, sub, look, load, stop, fld}
-use Rattle.vc_builder.proofs.WalkNames.{bin, of_opd, size_lit, first, blocks, exec, returns, enter, alloc_all}
-use Rattle.vc_builder.proofs.WalkNames.{pass_all, free_all, take_at, give_at, look_at, get, get_in, through, sets}
+use Rattle.vc_builder.proofs.WalkNames.{bin, of_opd, first, blocks, exec, returns, enter, alloc_all}
+use Rattle.vc_builder.proofs.WalkNames.{pass_all, free_all, look_at, get, get_in, through, sets}
 use Rattle.vc_builder.proofs.WalkNames.{sets_last, env, tables, layout, layouts, owns, Ptr}
 use Rattle.vc_builder.proofs.WalkNames.{plain, types_at, nothing, opens, closes, says, Stays}
 use Rattle.vc_builder.proofs.WalkNames.{stay_ref, walk_of, ends_at, Goes-ref, Option}
-use Rattle.vc_builder.proofs.WalkNames.{None, tail, El, R, elτ, Good, times_below, one_below, as_raw, word}
+use Rattle.vc_builder.proofs.WalkNames.{None, tail, El, R, elτ, Good, times_below, as_raw, word}
 use Rattle.vc_builder.proofs.WalkNames.{word-Good}
 use Rattle.vc_builder.specs.PlacesLend.{with_parts}
 use Rattle.vc_builder.specs.Builder.{builder}
 use Rattle.vc_builder.proofs.WalkNames.{◌+◌, drop_l}
 use Rattle.vc_builder.proofs.PlacesLaid.{taken, turned, uncons}
-use Rattle.vc_builder.proofs.PlacesMemory.{all, opened, closed}
+use Rattle.vc_builder.proofs.PlacesMemory.{sized, all, opened, closed}
 use Rattle.circular_buffer.specs.Ownership.{slot, slots}
 use Rattle.vc_builder.proofs.PlacesMemory.{Row, Start, bytes, base_vals, base-tells, base-goes}
 use Rattle.vc_builder.proofs.PlacesMemory.{number-goes}
@@ -50,15 +50,12 @@ read_spec 𝓤 𝓛 𝓜 𝓡 wired X L =
     let place = turned (taken d.parts d.tail index x leading.1 asked.2) in
     fsplit ! $ fsplit3 ! $ keep ! (1 ∷ 2 ∷ 4 ∷ 5 ∷ []) $
     -- [what self shows; its borrow; the token; the other tokens]
-    enter ! 𝓣.C 𝓣.Λ fn _ Post $ alloc_all !
+    enter ! _ _ _ _ _ $ alloc_all !
     (λ l. pass_all ! refl ((tt, tt), (word-Good [] base.ptr, ((tt, record { fits = are.1.1.0.1 }), tt))) $
     opens ! tt (Row E) {h = d} rb ro (λ vs. move ! (1 ∷ []) $ opened E d ! vs (λ b o at fit.
-    let tiny : s < 2 ^ 64 = omega (arith, one_below (length row) s (2 ^ 63) (omega (arith, place.0)) fit) in
     let far : index * s < 2 ^ 64 = omega (arith, times_below index (length row) s (2 ^ 63) (omega (arith, place.0)) fit) in
-    take_at ! 2 $ rewrite ! 0 (λ (p : Ptr). ‵ (fat full_share (layout (Start E)) (l 2) 0 (word p))) (asked.0
-    ∙ at) refl $ give_at ! 2 $ first ! $ blocks ! $
-    sets ! (bin ! (get ! refl) (size_lit ! (record { fits = tiny })) (record { fits = far })) refl
-    (tt, record { fits = far }) $
+    rewrite ! 15 (λ (p : Ptr). ‵ (fat full_share (layout (Start E)) (l 2) 0 (word p))) (asked.0 ∙ at) refl $ first ! $ blocks ! $
+    sets ! (sized E ! (get ! refl) far) refl (tt, record { fits = far }) $
     sets ! (bin ! (get_in ! (fld ! refl (stop !)) (sub ! 0 refl (whole !))) (get ! refl) tt) refl (tt, tt) $
     use1 𝓛 (‵ (slot (R E) b (index * s + o) (get_or row index None)) ⊛ ‵ (Besides E 𝓛 b o row index))
     (slot_out E 𝓛 b o row index place.0) $ split ! $
@@ -78,5 +75,5 @@ read_spec 𝓤 𝓛 𝓜 𝓡 wired X L =
     move ! (1 ∷ 0 ∷ []) $ closes ! tt (Row E) new vs rb ro $
     returns ! (look_at ! 0 refl) $ free_all ! refl $ keep ! (0 ∷ 1 ∷ 2 ∷ 3 ∷ 4 ∷ []) $
     suffices ! _ (ends_at 𝓛 Ends hs c z v x (new, (tt, (tt, tt))) (tt, (tt, (tt, tt)))) $ says ! (leading.1, refl, refl, refl) $
-    move ! (2 ∷ 4 ∷ []) $ join ! $ frame ! $ feq_i ! (List Val) (mut_vals a.0) (mut_vals a.0) refl $ fjoin3 ! $ nothing ! $
-    nothing ! $ fjoin ! $ nothing ! $ fjoin ! $ move ! (1 ∷ 0 ∷ []) $ fjoin ! $ done !)))))))
+    move ! (2 ∷ 4 ∷ []) $ join ! $ frame ! $ feq_i ! (List Val) (mut_vals a.0) (mut_vals a.0) refl $ fjoin3 ! $
+    nothing ! $ nothing ! $ nothing ! $ move ! (3 ∷ []) $ group ! 4 $ done !)))))))

@@ -1,20 +1,20 @@
 -- `slice` shows the values that are left. Assumes `Logic`.
-use Rattle.vc_builder.proofs.WalkNames.{ !, refl, sym, ap, subst, ◌∙◌, List, [], ◌∷◌, ℕ, ◌+◌, ◌*◌, ◌<◌, ◌^◌}
+use Rattle.vc_builder.proofs.WalkNames.{group, !, refl, ap, ◌∙◌, List, [], ◌∷◌, ℕ, ◌+◌, ◌*◌, ◌<◌, ◌^◌}
 use Rattle.vc_builder.proofs.WalkNames.{arith, length, full_share, SProp}
 use Rattle.vc_builder.proofs.WalkNames.{never, id⊢, Lft, Share, fat, w64, a_type, inst_fn, Val}
-use Rattle.vc_builder.proofs.WalkNames.{vint, ‵, at_ret, ◌$◌, move, keep, drop, use1}
+use Rattle.vc_builder.proofs.WalkNames.{‵, at_ret, ◌$◌, move, keep, drop, use1}
 use Rattle.vc_builder.proofs.WalkNames.{join, rewrite, fsplit, fjoin, feq_i, flt_i, flt_l, suffices}
-use Rattle.vc_builder.proofs.WalkNames.{frame, done, whole, sub, agg, stop, fld, bin, of_opd, size_word, and_then}
+use Rattle.vc_builder.proofs.WalkNames.{frame, done, whole, sub, agg, stop, fld, bin, of_opd, and_then}
 use Rattle.vc_builder.proofs.WalkNames.{no_more, first, blocks, exec, returns, enter, alloc_all, pass_all, free_all}
-use Rattle.vc_builder.proofs.WalkNames.{take_at, give_at, look_at, get, get_in, sets, sets_last, is, env}
+use Rattle.vc_builder.proofs.WalkNames.{look_at, get, get_in, sets, sets_last, env}
 use Rattle.vc_builder.proofs.WalkNames.{tables, RefOf, yes, hide, unhide, layout, layouts, owns, Ptr}
 use Rattle.vc_builder.proofs.WalkNames.{in_a_block, plain, types_at, slice_val, elements_shared, nothing, says}
 use Rattle.vc_builder.proofs.WalkNames.{Stays, stay_dropped, walk_of, ends_at, Goes-dropped}
-use Rattle.vc_builder.proofs.WalkNames.{tail, El, R, times_below, uncapped, word, word-Good}
+use Rattle.vc_builder.proofs.WalkNames.{tail, El, R, times_below, word, word-Good}
 use Rattle.circular_buffer.specs.Ownership.{cells_lent}
 use Rattle.vc_builder.proofs.WalkNames.{◌+◌}
 use Rattle.vc_builder.proofs.PlacesLaid.{length-laid, rest-run}
-use Rattle.vc_builder.proofs.PlacesMemory.{all}
+use Rattle.vc_builder.proofs.PlacesMemory.{sized, all}
 use Rattle.vc_builder.proofs.PlacesMemory.{Row, Start, bytes, base-goes}
 use Rattle.vc_builder.proofs.PlacesMemory.{number-goes}
 use Rattle.vc_builder.proofs.WalkNames.{named, proved, shr_vals, shr_Tells}
@@ -52,17 +52,14 @@ slice_spec 𝓤 𝓛 𝓜 𝓡 wired X L =
     let long = length-laid d.parts d.tail in
     fsplit ! $ fsplit ! $ keep ! (1 ∷ 3 ∷ 4 ∷ []) $
     -- [the `&`; the token; the other tokens]
-    enter ! 𝓣.C 𝓣.Λ fn _ Post $ alloc_all ! (λ l. pass_all ! refl
+    enter ! _ _ _ _ _ $ alloc_all ! (λ l. pass_all ! refl
     ((tt, tt), (word-Good [] base.ptr, ((tt, record { fits = are.1.1.0.1 }), ((tt, record { fits = small_count }), tt)))) $
     unhide ! $ fsplit ! $ drop ! $
     in_a_block ! d.at (λ p. cells_lent (R E) p row κ) (id⊢ 𝓤 (never 𝓤)) (λ b o at. fsplit ! $ flt_l ! (λ fit.
     let far : from * s < 2 ^ 64 = omega (arith, times_below from (length row) s (2 ^ 63) (omega arith) fit) in
     let place : ℕ × ℕ = (b, from * s + o) in
-    take_at ! 2 $ rewrite ! 0 (λ (p : Ptr). ‵ (fat full_share (layout (Start E)) (l 2) 0 (word p))) (asked.0
-    ∙ at) refl $ give_at ! 2 $ first ! $ blocks ! $
-    sets ! (is ! (bin ! (get ! refl) (size_word !)
-    (record { fits = subst (λ (k : ℕ). k < 2 ^ 64) (sym (uncapped from s far)) far }))
-    (ap (vint w64) (uncapped from s far))) refl (tt, record { fits = far }) $
+    rewrite ! 13 (λ (p : Ptr). ‵ (fat full_share (layout (Start E)) (l 2) 0 (word p))) (asked.0 ∙ at) refl $ first ! $ blocks ! $
+    sets ! (sized E ! (get ! refl) far) refl (tt, record { fits = far }) $
     sets ! (bin ! (get_in ! (fld ! refl (stop !)) (sub ! 0 refl (whole !))) (get ! refl) tt) refl (tt, tt) $
     use1 𝓛 (‵ (elements_shared (R E) xs b place.1 κ))
     (run_seen E 𝓛 b κ o row from (length xs) xs (omega arith) (rest-run d.parts d.tail from asked.2)) $ hide ! $
@@ -78,5 +75,5 @@ slice_spec 𝓤 𝓛 𝓜 𝓡 wired X L =
     returns ! (look_at ! 0 refl) $ free_all ! refl $ keep ! (0 ∷ 1 ∷ 2 ∷ []) $
     suffices ! _ (ends_at 𝓛 Ends hs c z (slice_val place count) (record { ref_ptr = place; now = xs })
     (tt, (tt, (tt, (tt, tt)))) (tt, (tt, (tt, (tt, tt))))) $ says ! refl $
-    move ! (1 ∷ 2 ∷ []) $ join ! $ frame ! $ nothing ! $ nothing ! $ fjoin ! $ nothing ! $ fjoin ! $ nothing ! $
-    fjoin ! $ nothing ! $ fjoin ! $ done !)))))
+    move ! (1 ∷ 2 ∷ []) $ join ! $ frame ! $ nothing ! $ nothing ! $ nothing ! $ nothing ! $ nothing ! $
+    group ! 5 $ done !)))))

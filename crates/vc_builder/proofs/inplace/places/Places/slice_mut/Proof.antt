@@ -3,17 +3,17 @@ use Rattle.vc_builder.proofs.WalkNames.{ !, split3, ◌≡◌, refl, sym, ap, su
 use Rattle.vc_builder.proofs.WalkNames.{◌*◌, ◌<◌, ◌^◌, arith, length, take, drop_l}
 use Rattle.vc_builder.proofs.WalkNames.{take_front, Ura, full_share, SProp, ent, sep, Fml}
 use Rattle.vc_builder.proofs.WalkNames.{Lft, GName, Share, fsep, fat, flft, named, w64, a_type, inst_fn, Val}
-use Rattle.vc_builder.proofs.WalkNames.{vint, Logic, sem, cells, ‵, some, later, await, pick}
+use Rattle.vc_builder.proofs.WalkNames.{Logic, sem, cells, ‵, some, later, await, pick}
 use Rattle.vc_builder.proofs.WalkNames.{at_ret, ◌⊛◌, ◌$◌, ◌∵◌, qed, move, keep, use1, use2, split, join, group}
 use Rattle.vc_builder.proofs.WalkNames.{rewrite, fsplit, fsplit3, fjoin, fjoin3, fpack, suffices}
-use Rattle.vc_builder.proofs.WalkNames.{frame, done, whole, sub, agg, stop, fld, bin, of_opd, size_word, and_then}
+use Rattle.vc_builder.proofs.WalkNames.{frame, done, whole, sub, agg, stop, fld, bin, of_opd, and_then}
 use Rattle.vc_builder.proofs.WalkNames.{no_more, first, blocks, exec, returns, enter, alloc_all, pass_all, free_all}
-use Rattle.vc_builder.proofs.WalkNames.{take_at, give_at, look_at, get, get_in, sets, sets_last, is, env}
+use Rattle.vc_builder.proofs.WalkNames.{look_at, get, get_in, sets, sets_last, env}
 use Rattle.vc_builder.proofs.WalkNames.{tables, Array, no, follows, mem, part_of, cell_at, layout}
 use Rattle.vc_builder.proofs.WalkNames.{layouts, owns, Ptr, block_ptr, MutBor, plain}
 use Rattle.vc_builder.proofs.WalkNames.{types_at, MutSlice, slice_val, nothing, opens, says, Stays}
 use Rattle.vc_builder.proofs.WalkNames.{stay_dropped, walk_of, ends_at, Goes-spent_ref, Option, Some}
-use Rattle.vc_builder.proofs.WalkNames.{length-map, tail, El, R, el_x, times_below, uncapped, word}
+use Rattle.vc_builder.proofs.WalkNames.{length-map, tail, El, R, el_x, times_below, word}
 use Rattle.vc_builder.proofs.WalkNames.{word-Good}
 use denote.FollowSlice.{lends_Elements}
 use Rattle.vc_builder.specs.PlacesLend.{with_parts}
@@ -22,7 +22,7 @@ use Rattle.vc_builder.specs.Places.{laid}
 use Rattle.circular_buffer.specs.Ownership.{slots}
 use Rattle.vc_builder.proofs.PlacesLaid.{length-laid, rest-run, rest-written}
 use Rattle.vc_builder.proofs.WalkNames.{◌++◌}
-use Rattle.vc_builder.proofs.PlacesMemory.{all, opened, closed}
+use Rattle.vc_builder.proofs.PlacesMemory.{sized, all, opened, closed}
 use Rattle.vc_builder.proofs.PlacesMemory.{Row, Start, Mark, bytes}
 use Rattle.vc_builder.proofs.PlacesMemory.{base-goes, number-goes}
 use Rattle.vc_builder.proofs.WalkNames.{named, proved, mut_vals, mut_Tells}
@@ -96,11 +96,8 @@ slice_mut_spec 𝓤 𝓛 𝓜 𝓡 wired X L =
     ((tt, tt), (word-Good [] base.ptr, ((tt, record { fits = are.1.1.0.1 }), ((tt, record { fits = small_count }), tt)))) $
     opens ! tt (Row E) {h = d} rb ro (λ vs. move ! (1 ∷ []) $ opened E d ! vs (λ b o at fit.
     let far : from * s < 2 ^ 64 = omega (arith, times_below from (length row) s (2 ^ 63) (omega arith) fit) in
-    take_at ! 2 $ rewrite ! 0 (λ (p : Ptr). ‵ (fat full_share (layout (Start E)) (l 2) 0 (word p))) (asked.0
-    ∙ at) refl $ give_at ! 2 $ first ! $ blocks ! $
-    sets ! (is ! (bin ! (get ! refl) (size_word !)
-    (record { fits = subst (λ (k : ℕ). k < 2 ^ 64) (sym (uncapped from s far)) far }))
-    (ap (vint w64) (uncapped from s far))) refl (tt, record { fits = far }) $
+    rewrite ! 17 (λ (p : Ptr). ‵ (fat full_share (layout (Start E)) (l 2) 0 (word p))) (asked.0 ∙ at) refl $ first ! $ blocks ! $
+    sets ! (sized E ! (get ! refl) far) refl (tt, record { fits = far }) $
     sets ! (bin ! (get_in ! (fld ! refl (stop !)) (sub ! 0 refl (whole !))) (get ! refl) tt) refl (tt, tt) $
     let run : ℕ = from * s + o in
     use1 𝓛 (‵ (slots (R E) b run (take (length xs) (drop_l from row))) ⊛ ‵ (Around E 𝓛 b o row from (length xs)))
@@ -127,5 +124,5 @@ slice_mut_spec 𝓤 𝓛 𝓜 𝓡 wired X L =
     returns ! (look_at ! 0 refl) $ free_all ! refl $ keep ! (0 ∷ 1 ∷ 2 ∷ 3 ∷ []) $
     suffices ! _ (ends_at 𝓛 Ends hs c z (slice_val (b, run) count) r (tt, (tt, (tt, (tt, tt))))
     (tt, (tt, (tt, (tt, tt))))) $
-    nothing ! $ nothing ! $ fjoin ! $ nothing ! $ fjoin ! $ nothing ! $ fjoin ! $ nothing ! $ fjoin ! $ join ! $
+    nothing ! $ nothing ! $ nothing ! $ nothing ! $ nothing ! $ group ! 5 $ join ! $
     move ! (1 ∷ 3 ∷ []) $ join ! $ join ! $ frame ! $ says ! refl $ done !))))))

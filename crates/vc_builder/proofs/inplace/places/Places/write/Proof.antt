@@ -1,19 +1,19 @@
 -- `write` fills an empty place. Assumes `Logic`.
-use Rattle.vc_builder.proofs.WalkNames.{refl, subst, ◌∙◌, List, [], ◌∷◌, ◌++◌, ℕ, ◌+◌, ◌*◌, ◌<◌, ◌^◌, arith}
+use Rattle.vc_builder.proofs.WalkNames.{group, refl, subst, ◌∙◌, List, [], ◌∷◌, ◌++◌, ℕ, ◌+◌, ◌*◌, ◌<◌, ◌^◌, arith}
 use Rattle.vc_builder.proofs.WalkNames.{length, set, get_or, full_share, SProp}
 use Rattle.vc_builder.proofs.WalkNames.{fat, a_type, w64, inst_fn, Val, vptr, vint, vunit}
 use Rattle.vc_builder.proofs.WalkNames.{WpFn, ‵, ◌⊛◌, at_ret, ◌$◌, !, move, keep, use1, use2, split}
-use Rattle.vc_builder.proofs.WalkNames.{join, rewrite, fsplit, fsplit3, fjoin, fjoin3, feq_i}
+use Rattle.vc_builder.proofs.WalkNames.{join, rewrite, fsplit, fsplit3, fjoin3, feq_i}
 use Rattle.vc_builder.proofs.WalkNames.{suffices, frame, done, whole, sub, init, stop, fld, bin, of_opd, unit_lit}
-use Rattle.vc_builder.proofs.WalkNames.{size_lit, assigns_last, first, blocks, exec, returns, enter, alloc_all}
+use Rattle.vc_builder.proofs.WalkNames.{assigns_last, first, blocks, exec, returns, enter, alloc_all}
 use Rattle.vc_builder.proofs.WalkNames.{pass_all, free_all, take_at, give_at, look_at, get, get_in, through, sets}
 use Rattle.vc_builder.proofs.WalkNames.{env, tables, no, layout, layouts, owns, Ptr}
 use Rattle.vc_builder.proofs.WalkNames.{plain, types_at, nothing, opens, closes, says, Stays}
 use Rattle.vc_builder.proofs.WalkNames.{stay_dropped, stay_ref, walk_of, ends_at, Goes-dropped, Goes-ref, Some, None}
-use Rattle.vc_builder.proofs.WalkNames.{proved_at, tail, El, R, elτ, one, Good, lawful, times_below, one_below}
+use Rattle.vc_builder.proofs.WalkNames.{proved_at, tail, El, R, elτ, one, Good, lawful, times_below}
 use Rattle.vc_builder.proofs.WalkNames.{as_written, word, word-Good}
 use Rattle.circular_buffer.specs.Ownership.{slot, slots}
-use Rattle.vc_builder.proofs.PlacesMemory.{Row, Start, bytes, base-tells, base-goes, number-goes}
+use Rattle.vc_builder.proofs.PlacesMemory.{sized, Row, Start, bytes, base-tells, base-goes, number-goes}
 use Rattle.circular_buffer.proofs.Memory.{value_in, Besides, slot_out, slot_in}
 use Rattle.vc_builder.specs.PlacesLend.{with_parts}
 use Rattle.vc_builder.proofs.PlacesLaid.{turned}
@@ -55,12 +55,10 @@ write_spec 𝓤 𝓛 𝓜 𝓡 wired X L =
     enter ! 𝓣.C 𝓣.Λ fn (vptr rb ro ∷ word base.ptr ∷ vint w64 index ∷ v ∷ []) Post $ alloc_all !
     (λ l. pass_all ! refl ((tt, tt), (word-Good [] base.ptr, ((tt, record { fits = are.1.1.0.1 }), (good, tt)))) $
     opens ! tt (Row E) {h = d} rb ro (λ vs. move ! (1 ∷ []) $ opened E d ! vs (λ b o at fit.
-    let tiny : s < 2 ^ 64 = omega (arith, one_below (length row) s (2 ^ 63) (omega (arith, place.0)) fit) in
     let far : index * s < 2 ^ 64 = omega (arith, times_below index (length row) s (2 ^ 63) (omega (arith, place.0)) fit) in
     take_at ! 2 $ rewrite ! 0 (λ (p : Ptr). ‵ (fat full_share (layout (Start E)) (l 2) 0 (word p))) (asked.0
     ∙ at) refl $ give_at ! 2 $ first ! $ blocks ! $
-    sets ! (bin ! (get ! refl) (size_lit ! (record { fits = tiny })) (record { fits = far })) refl
-    (tt, record { fits = far }) $
+    sets ! (sized E ! (get ! refl) far) refl (tt, record { fits = far }) $
     sets ! (bin ! (get_in ! (fld ! refl (stop !)) (sub ! 0 refl (whole !))) (get ! refl) tt) refl (tt, tt) $
     use1 𝓛 (‵ (slot (R E) b (index * s + o) (get_or row index None)) ⊛ ‵ (Besides E 𝓛 b o row index))
     (slot_out E 𝓛 b o row index place.0) $ split ! $
@@ -80,6 +78,5 @@ write_spec 𝓤 𝓛 𝓜 𝓡 wired X L =
     returns ! (look_at ! 0 refl) $ free_all ! refl $ keep ! (0 ∷ 1 ∷ 2 ∷ 3 ∷ []) $
     suffices ! _ (ends_at 𝓛 Ends hs c z vunit tt (new, (tt, (tt, (tt, tt)))) (tt, (tt, (tt, (tt, tt))))) $
     says ! (refl, refl, refl) $
-    move ! (2 ∷ 3 ∷ []) $ join ! $ frame ! $ feq_i ! (List Val) vss.0 (vptr rb ro ∷ []) are.0.0 $ fjoin3 ! $ nothing ! $
-    nothing ! $ fjoin ! $ nothing ! $ fjoin ! $ nothing ! $ fjoin ! $ move ! (1 ∷ 0 ∷ []) $ fjoin ! $
-    feq_i ! (List Val) (vunit ∷ []) (vunit ∷ []) refl $ move ! (1 ∷ 0 ∷ []) $ done !)))))
+    move ! (2 ∷ 3 ∷ []) $ join ! $ frame ! $ feq_i ! _ vss.0 (vptr rb ro ∷ []) are.0.0 $ fjoin3 ! $ nothing ! $ nothing ! $
+    nothing ! $ nothing ! $ move ! (4 ∷ []) $ group ! 5 $ frame ! $ feq_i ! _ (vunit ∷ []) _ refl $ done !)))))
