@@ -6,7 +6,7 @@ use Rattle.vc_maps.specs.Collecting.{IsCollected, IsExtended}
 use Rattle.vc_maps.specs.Combining.{CanCombine, Combines, combined, IsCombinedBy}
 use Rattle.vc_maps.specs.Lending.{IsWritten}
 use Rattle.vc_maps.specs.Mapping.{AnswersInTurn, MapsEntry}
-use Rattle.vc_maps.specs.Updating.{UpsertsEntry, UpsertsValue, IsWrittenBy}
+use Rattle.vc_maps.specs.Updating.{UpsertsEntry, UpsertsValue, IsBound, IsWrittenBy}
 use Rattle.vc_maps.specs.Writing.{WritesEntry, WritesInTurn}
 use Rattle.definition_tests.proofs.Digits.{Digit, one, two, three, four, order, each, not_true}
 
@@ -26,6 +26,13 @@ nowhere_written = record { pairs = refl; keys = refl; values = λ stands. not_tr
 -- 30 written at the form 2
 is_written_by : IsWrittenBy order (λ k. order k two) tens 30 ((one, 10) ∷ (two, 30) ∷ [])
 is_written_by = record { keys = refl; values = λ stands. each _ refl refl refl refl refl }
+
+-- 30 bound to 2, where 20 stood, and to 3, where nothing stood
+is_bound : IsBound order tens two 30 ((one, 10) ∷ (two, 30) ∷ [])
+is_bound = record { values = each _ refl refl refl refl refl; entries = each _ refl refl refl refl refl }
+
+newly_bound : IsBound order tens three 30 ((one, 10) ∷ (two, 20) ∷ (three, 30) ∷ [])
+newly_bound = record { values = each _ refl refl refl refl refl; entries = each _ refl refl refl refl refl }
 
 -- one more is written to 20, and 5 is put where nothing stood
 abbrev OneMore : ℕ → ℕ → Type 0

@@ -18,7 +18,7 @@ pub use Rattle.vc_maps.specs.Combining.{CanCombine, Combines, IsCombinedBy, comb
 pub use Rattle.vc_maps.specs.Iterating.{HandsPairs, ShowsPairs}
 pub use Rattle.vc_maps.specs.Lending.{IsWritten, lends_value}
 pub use Rattle.vc_maps.specs.Mapping.{AnswersInTurn, MapsEntry}
-pub use Rattle.vc_maps.specs.Updating.{IsWrittenBy, UpsertsEntry, UpsertsValue, lends_value_by}
+pub use Rattle.vc_maps.specs.Updating.{IsBound, IsWrittenBy, UpsertsEntry, UpsertsValue, lends_bound, lends_value_by}
 pub use Rattle.vc_maps.specs.Writing.{CanWriteAt, CanWriteEach, WritesAt, WritesEntry, WritesInTurn}
 pub use Rattle.vc_merge.specs.Ascending.{Ascends, element_at, member}
 pub use Rattle.vc_merge.specs.Chain.{Allows, Answer, Finishes, Gives, IsAllowed, IsAtFront, IsMerged, Run, Step, Steps, Stops, events, run_events}
