@@ -85,11 +85,13 @@ pub fn finish_onto<K: TKey, V: TValue, M: Build<K, V>>(
 {
     if value.is_none() && kids.len() < 2 {
         if let Some(kid) = kids.pop() {
-            made.push(new_joined(alloc, prefix, kid)?)?;
+            made.reserve(1)?;
+            made.push_reserved(new_joined(alloc, prefix, kid)?);
         }
         return Ok(());
     }
-    made.push(new_node(alloc, prefix, value, kids)?)?;
+    made.reserve(1)?;
+    made.push_reserved(new_node(alloc, prefix, value, kids)?);
     Ok(())
 }
 

@@ -69,7 +69,8 @@ pub fn copy_onto<K: TKey, V: TValue, S: RadixNode<K, V>, T: Build<K, V>>(
     let value = clone_value(tree.value())?;
     let below = copy_list::<K, V, S, T>(alloc, tree.children())?;
     let children = children_of::<K, V, T>(below)?;
-    copies.push(T::assemble(prefix, value, children, Seal::new()))?;
+    copies.reserve(1)?;
+    copies.push_reserved(T::assemble(prefix, value, children, Seal::new()));
     Ok(())
 }
 

@@ -12,4 +12,5 @@ pub returns : goal.returns
 returns g c =
     let child = (whole-of g.M.RadixNode.tree c.args.prefix.now c.args.value c.args.kids.items (λ e. search rules)).0
     ∙ sym (ap Some c.in_ok-new_node.ensures) in
-    rw (child, c.in_ok-push-2.ensures.items) (map-append g.M.RadixNode.tree c.args.made.now.items _)
+    rw (child, c.push_reserved-2.ensures.items, c.in_ok-reserve-2.ensures.items)
+    (map-append g.M.RadixNode.tree c.args.made.now.items _)
