@@ -64,8 +64,8 @@ pub trait AbstractBTreeMap<K: Ord, V> {
     /// The map of the answers of `f`, which is called at each key of either map. Of a
     /// key of both, `f` sees the one of this map, and the result has a clone of it.
     ///
-    /// It looks up each key of either map in the other one, and inserts each answer under a clone of
-    /// the key. Where a clone, memory or the closure is refused, what was built is dropped.
+    /// It looks up each key of either map in the other one, and inserts each answer under a clone
+    /// of the key. Where a clone, memory or the closure is refused, what was built is dropped.
     final fn outer_join<
         W,
         X: Drop,
@@ -148,8 +148,8 @@ pub trait AbstractBTreeMap<K: Ord, V> {
     /// The map of the answers of `f`, which is called at each key of both maps and sees the keys of
     /// the other map, and the result has clones of these.
     ///
-    /// It looks up each key of the other map, and inserts each answer under a clone of the key. Where
-    /// a clone, memory or the closure is refused, what was built is dropped.
+    /// It looks up each key of the other map, and inserts each answer under a clone of the key.
+    /// Where a clone, memory or the closure is refused, what was built is dropped.
     final fn inner_join<
         W,
         X: Drop,
